@@ -1,0 +1,12 @@
+-- Two-byte numbers (document 01, "The sheet", first sentence).
+use Prim.Native.Nat.{ℕ, _+_, _*_, _/_, _%_}
+use mathlib.Core.List.{List, [], _∷_}
+use lib.ListN.{getD}
+
+-- "Two-byte numbers have the low byte first." The number at place i of the bytes s.
+unfoldable pub number : List ℕ → ℕ → ℕ
+number s i = getD s i 0 + 256 * getD s (i + 1) 0
+
+-- The two bytes of a number.
+unfoldable pub twoBytes : ℕ → List ℕ
+twoBytes x = x % 256 ∷ x / 256 % 256 ∷ []
