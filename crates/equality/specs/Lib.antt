@@ -1,0 +1,4 @@
+pub mod Meaning
+pub mod Node
+pub mod Search
+pub mod Evaluator

@@ -1,0 +1,58 @@
+-- What it is that an assignment meets a sheet (document 01, "Meaning"; source document 001, sections 2.2 and 3.2).
+use Prim.Native.Nat.{ℕ}
+use mathlib.Core.Bool.{Bool, true, false, not, _&&_, _||_}
+use mathlib.Core.List.{List, [], _∷_}
+use mathlib.Core.Logic.{_⊎_, _≢_}
+use mathlib.Core.Path.{_≡_}
+use lib.Dec.{T, eqb}
+use Rattle.sheet.specs.Conditions.{Term, same, apart, conditions}
+
+-- "A numbering gives each lot a whole number.": an assignment (document 01: a numbering) is a function on lots; the values may be of
+-- any type.
+
+-- ""same a b" is true when the two numbers are equal, "apart a b" when they differ; a may equal b."
+abbrev pub Holds : {A : Type 0} → (ℕ → A) → Term → Type 0
+Holds f (same a b) = f a ≡ f b
+Holds f (apart a b) = f a ≢ f b
+
+-- "Zero: the condition has no term, and no numbering meets it.": what a condition with no term counts for, wherever a rule asks
+-- whether some term of a condition is such and such.
+abbrev pub noTerm : Bool
+noTerm = false
+
+-- Some term of a condition is such and such: as a proposition, and as a test.
+unfoldable pub SomeTerm : (Term → Type 0) → List Term → Type 0
+SomeTerm P [] = T noTerm
+SomeTerm P (t ∷ ts) = P t ⊎ SomeTerm P ts
+
+unfoldable pub someTerm : (Term → Bool) → List Term → Bool
+someTerm p [] = noTerm
+someTerm p (t ∷ ts) = p t || someTerm p ts
+
+-- "A condition is met when some term is true"
+abbrev pub MeetsCondition : {A : Type 0} → (ℕ → A) → List Term → Type 0
+MeetsCondition f ts = SomeTerm (Holds f) ts
+
+-- "a sheet when all conditions are."
+unfoldable pub MeetsAll : {A : Type 0} → (ℕ → A) → List (List Term) → Type 0
+MeetsAll f [] = Unit {0}
+MeetsAll f (ts ∷ tss) = MeetsCondition f ts × MeetsAll f tss
+
+abbrev pub Meets : {A : Type 0} → (ℕ → A) → List ℕ → Type 0
+Meets f s = MeetsAll f (conditions s)
+
+-- ---- the same, computed, for assignments into the naturals
+
+abbrev pub holds : (ℕ → ℕ) → Term → Bool
+holds f (same a b) = eqb (f a) (f b)
+holds f (apart a b) = not (eqb (f a) (f b))
+
+abbrev pub meetsCondition : (ℕ → ℕ) → List Term → Bool
+meetsCondition f ts = someTerm (holds f) ts
+
+unfoldable pub meetsAll : (ℕ → ℕ) → List (List Term) → Bool
+meetsAll f [] = true
+meetsAll f (ts ∷ tss) = meetsCondition f ts && meetsAll f tss
+
+abbrev pub meets : (ℕ → ℕ) → List ℕ → Bool
+meets f s = meetsAll f (conditions s)

@@ -1,0 +1,123 @@
+-- The walk over a list of records from any hand (document 01, "Grounds from any hand", and checks 10 to 15 of its table).
+use Prim.Native.Nat.{ℕ, suc, _-_, _/_, _%_}
+use mathlib.Core.Bool.{Bool, true, false, not, _&&_, _||_}
+use mathlib.Core.List.{List, [], _∷_, _++_, map}
+use mathlib.Core.Path.{_≡_}
+use lib.Dec.{leb, ltb, eqb}
+use lib.ListN.{length, getD}
+use Rattle.sheet.specs.declared.Verdict.{Verdict}
+use Rattle.sheet.specs.declared.Verdict.the-variants.{Passes, Refuses}
+use Rattle.sheet.specs.Format.{conditionCount}
+use Rattle.sheet.specs.Conditions.{Term, same, apart, conditions}
+use Rattle.sheet.specs.Checks.{orElse, refusesIf, firstRefusal, sheetChecks, lotInRange}
+use Rattle.sheet.specs.Answers.{Answer, answerOf}
+use Rattle.equality.specs.Meaning.{someTerm}
+use Rattle.equality.specs.Node.{Decisions, Value, isTrue, isFalse, isOpen, value}
+use Rattle.store.specs.Records.{NodeRecord, splitRecord, groundRecord, metRecord, noRecord, recordLength, mostNodes, recordsOf}
+
+-- "same, a split | 15 | 1,024 splits stand above it | record": the most splits above a record.
+abbrev pub mostSplits : ℕ
+mostSplits = 1024
+
+-- "The splits above a record are kept with the branch taken at each.": a split's record number, its next, and the decision of the branch
+-- taken, "same" or "apart". The nearest split comes first.
+pub record Split : Type 0 where
+  pub number : ℕ
+  pub next : ℕ
+  pub decision : Term
+
+-- The decisions on the way to a record.
+abbrev pub decisionsOf : List Split → Decisions
+decisionsOf above = map (λ (split : Split). split .decision) above
+
+-- ---- a ground
+
+abbrev pub notFalse : Value → Bool
+notFalse isTrue = true
+notFalse isFalse = false
+notFalse isOpen = true
+
+-- "A ground passes when every term of its condition is false by the node rules under that path."
+unfoldable pub groundFails : Decisions → List Term → Bool
+groundFails ds ts = someTerm (λ t. notFalse (value ds t)) ts
+
+-- ---- after a ground
+
+-- "the nearest split above it still in its equal branch"; the splits nearer than that one are over.
+pub data Nearest : Type 0 where
+  noSplit : Nearest
+  sameSplit : ℕ → ℕ → ℕ → ℕ → List Split → Nearest
+
+abbrev pub nearestOf : Split → Term → List Split → Nearest → Nearest
+nearestOf split (same a b) above further = sameSplit (split .number) (split .next) a b above
+nearestOf split (apart a b) above further = further
+
+unfoldable pub nearest : List Split → Nearest
+nearest [] = noSplit
+nearest (split ∷ above) = nearestOf split (split .decision) above (nearest above)
+
+-- "With no such split the list must end.": `rest` is what follows; a record that is left over is refused by 14.
+abbrev pub mustEnd : List NodeRecord → ℕ → Verdict
+mustEnd [] following = Passes
+mustEnd (r ∷ rest) following = Refuses 14 following
+
+-- "After a ground, the nearest split above it still in its equal branch must have next equal to the following record, and its different
+-- branch begins." `walkRest` walks what follows, from a record's number and the splits above it.
+abbrev pub afterGround : (ℕ → List Split → Verdict) → List NodeRecord → ℕ → Nearest → Verdict
+afterGround walkRest rest following noSplit = mustEnd rest following
+afterGround walkRest rest following (sameSplit number next a b above) =
+    orElse (refusesIf (not (eqb next following)) 13 number)
+    (walkRest following (record { number = number; next = next; decision = apart a b } ∷ above))
+
+-- ---- the walk
+
+module _ (s : List ℕ) where
+  -- The terms of the condition that a ground names.
+  abbrev pub named : ℕ → List Term
+  named c = getD (conditions s) (c - 1) []
+
+  abbrev pub conditionInRange : ℕ → Bool
+  conditionInRange c = leb 1 c && leb c (conditionCount s)
+
+  -- One record, of number `at`, below the splits `above`; `rest` is what follows it. "kind, spare, lot or condition out of range; second or
+  -- next of a ground not 0" is 11: bytes of which one has to be 0 and isn't are decoded as no record. "kinds 1 and 2 only": a met record
+  -- is out of range too. "Splits may name any two lots, also a pair already decided or a lot twice."
+  abbrev pub walkRecord : (ℕ → List Split → Verdict) → List NodeRecord → ℕ → List Split → NodeRecord → Verdict
+  walkRecord walkRest rest at above (splitRecord a b next) =
+      orElse (refusesIf (not (lotInRange s a && lotInRange s b)) 11 at)
+      (orElse (refusesIf (leb mostSplits (length above)) 15 at)
+      (walkRest (suc at) (record { number = at; next = next; decision = same a b } ∷ above)))
+  walkRecord walkRest rest at above (groundRecord c) =
+      orElse (refusesIf (not (conditionInRange c)) 11 at)
+      (orElse (refusesIf (groundFails (decisionsOf above) (named c)) 12 at)
+      (afterGround walkRest rest (suc at) (nearest above)))
+  walkRecord walkRest rest at above metRecord = Refuses 11 at
+  walkRecord walkRest rest at above noRecord = Refuses 11 at
+
+  -- The walk from record `at` on, which is the first of `list`. Where a record is due and the list is over, it is missing: 14.
+  unfoldable pub walkFrom : List NodeRecord → ℕ → List Split → Verdict
+  walkFrom [] at above = Refuses 14 at
+  walkFrom (r ∷ rest) at above = walkRecord (walkFrom rest) rest at above r
+
+-- ---- a list of bytes
+
+-- "list (checker) | 10 | length 0, no multiple of 8, or above 65,535 records | 0"
+unfoldable pub check10 : List ℕ → Verdict
+check10 list =
+    refusesIf (eqb (length list) 0 || not (eqb (length list % recordLength) 0) || ltb mostNodes (length list / recordLength)) 10 0
+
+-- The walk, "from record 1".
+unfoldable pub walkVerdict : List ℕ → List ℕ → Verdict
+walkVerdict s list = walkFrom s (recordsOf list) 1 []
+
+-- The first check of the table that a sheet and a list fail.
+unfoldable pub listVerdict : List ℕ → List ℕ → Verdict
+listVerdict s list = firstRefusal (sheetChecks s ++ check10 list ∷ walkVerdict s list ∷ [])
+
+-- "A list passes when its walk ends there and no check has refused it."
+abbrev pub Refutes : List ℕ → List ℕ → Type 0
+Refutes s list = listVerdict s list ≡ Passes
+
+-- The checker's answer: 0 for a list that passes.
+unfoldable pub checkAnswer : List ℕ → List ℕ → Answer
+checkAnswer s list = answerOf (listVerdict s list) (record { check = 0; first = 0; second = 0; third = 0 })

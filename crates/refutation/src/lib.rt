@@ -1,0 +1,1 @@
+// Refutations: the walk over a list of node records. Definitions and theorems only (specs/, proofs/).

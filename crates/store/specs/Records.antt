@@ -1,0 +1,82 @@
+-- Node records: one per node visited, and their bytes (document 01, "The node store").
+use Prim.Native.Nat.{ℕ, zero, suc, _+_, _*_, _-_, _/_, min}
+use mathlib.Core.Bool.{Bool, cond, _&&_}
+use mathlib.Core.List.{List, [], _∷_, _++_, map, flatMap}
+use lib.Dec.{eqb}
+use lib.ListN.{length, getD}
+use Rattle.sheet.specs.Bytes.{number, twoBytes}
+use Rattle.sheet.specs.Conditions.{countUp}
+use Rattle.equality.specs.Search.{Tree, metLeaf, groundLeaf, oneBranch, twoBranches, nodeCount}
+
+-- "Kind 1 split: lots a and b. Kind 2 ground: the condition, then 0. Kind 3 met: 0, 0. Kind 0 and kinds 4 to 255 are none of these."
+-- A split has its next besides; "Grounds and met have next 0." Bytes that are none of the three are `noRecord`.
+pub data NodeRecord : Type 0 where
+  splitRecord : ℕ → ℕ → ℕ → NodeRecord
+  groundRecord : ℕ → NodeRecord
+  metRecord : NodeRecord
+  noRecord : NodeRecord
+
+-- ---- the records of a search
+
+-- "In the list a split is followed by everything under its equal branch, then everything under its different branch; next is the record
+-- where that second branch begins, zero if never visited.": the records of a tree whose first has the number `at`.
+unfoldable pub records : ℕ → Tree → List NodeRecord
+records at (metLeaf ds) = metRecord ∷ []
+records at (groundLeaf c) = groundRecord c ∷ []
+records at (oneBranch a b t) = splitRecord a b 0 ∷ records (at + 1) t
+records at (twoBranches a b t u) =
+    splitRecord a b (at + 1 + nodeCount t) ∷ records (at + 1) t ++ records (at + 1 + nodeCount t) u
+
+-- ---- a record's bytes
+
+-- "One record of eight bytes per node visited"
+abbrev pub recordLength : ℕ
+recordLength = 8
+
+-- "kind, spare 0 (one byte each), first, second, next (two bytes each)"
+abbrev pub fields : ℕ → ℕ → ℕ → ℕ → List ℕ
+fields kind first second next = kind ∷ 0 ∷ twoBytes first ++ twoBytes second ++ twoBytes next
+
+unfoldable pub encode : NodeRecord → List ℕ
+encode (splitRecord a b next) = fields 1 a b next
+encode (groundRecord c) = fields 2 c 0 0
+encode metRecord = fields 3 0 0 0
+encode noRecord = fields 0 0 0 0
+
+-- The record of these fields, where those that have to be 0 are.
+abbrev pub recordIf : Bool → NodeRecord → NodeRecord
+recordIf zeros record′ = cond zeros record′ noRecord
+
+unfoldable pub ofKind : ℕ → ℕ → ℕ → ℕ → ℕ → NodeRecord
+ofKind zero spare first second next = noRecord
+ofKind (suc zero) spare first second next = recordIf (eqb spare 0) (splitRecord first second next)
+ofKind (suc (suc zero)) spare first second next = recordIf (eqb spare 0 && eqb second 0 && eqb next 0) (groundRecord first)
+ofKind (suc (suc (suc zero))) spare first second next =
+    recordIf (eqb spare 0 && eqb first 0 && eqb second 0 && eqb next 0) metRecord
+ofKind (suc (suc (suc (suc kind)))) spare first second next = noRecord
+
+-- The record whose bytes begin at place i.
+unfoldable pub decode : List ℕ → ℕ → NodeRecord
+decode list i = ofKind (getD list i 0) (getD list (i + 1) 0) (number list (i + 2)) (number list (i + 4)) (number list (i + 6))
+
+-- Record r of a list of records, "numbered from 1", and all of them.
+abbrev pub recordAt : List ℕ → ℕ → NodeRecord
+recordAt list r = decode list (recordLength * (r - 1))
+
+unfoldable pub recordsOf : List ℕ → List NodeRecord
+recordsOf list = map (recordAt list) (countUp (length list / recordLength) 1)
+
+-- The bytes of records, one after the other.
+unfoldable pub encodeAll : List NodeRecord → List ℕ
+encodeAll [] = []
+encodeAll (r ∷ rs) = encode r ++ encodeAll rs
+
+-- ---- the store's room
+
+-- The most records that a store or a list has.
+abbrev pub mostNodes : ℕ
+mostNodes = 65535
+
+-- "The store holds S records: its length divided by 8, rounded down, at most 65,535."
+abbrev pub capacity : List ℕ → ℕ
+capacity store = min (length store / recordLength) mostNodes

@@ -1,0 +1,1 @@
+// The text of the printing program. Definitions only, so far (specs/).
