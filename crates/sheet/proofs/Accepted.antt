@@ -1,0 +1,135 @@
+-- What the checks have found of a sheet that they pass.
+use Prim.Native.Nat.{ℕ, _≤_}
+use mathlib.Core.Bool.{Bool, true, false, _||_, and-eq-true-iff}
+use mathlib.Core.List.{List, []}
+use mathlib.Core.Logic.{_⊎_, inl, inr, ⊎-map}
+use mathlib.Core.Path.{_≡_, refl, sym, ap, _∙_}
+use native.Mathlib.Omega.{arith}
+use lib.Dec.{leb}
+use lib.ListN.{length}
+use borrow.Author.Tests.{eqb-true, leb-true, ltb-false, not-false}
+use Rattle.sheet.specs.declared.Header.{Header}
+use Rattle.sheet.specs.declared.Verdict.the-variants.{Passes}
+use Rattle.sheet.specs.Format.{lowestLot, headerLength, lotCount, conditionCount, recordCount, headAt, signAt, spareAt, firstLotAt, secondLotAt, nextAt, headerAt, HasHeader, HasRecord}
+use Rattle.sheet.specs.Checks.{check2, check3, check4, check5, check6, check7, lotInRange, wellFormed, Walk, reached, twice, member, walked, walkVerdict, reachedBy, sheetChecks, sheetVerdict, Accepted}
+use Rattle.sheet.proofs.Verdicts.{orElse-passes, firstRefusal-passes, refusesIf-passes, lowest-passes}
+
+-- A lot that a term may name, of so many lots.
+pub record InLots (lots lot : ℕ) : Type 0 where
+  pub low : lowestLot ≤ lot
+  pub high : lot ≤ lots
+
+-- The fields of record r are in range.
+pub record SoundRecord (s : List ℕ) (r : ℕ) : Type 0 where
+  pub sign : (signAt s r ≡ 1) ⊎ (signAt s r ≡ 2)
+  pub spare : spareAt s r ≡ 0
+  pub first : InLots (lotCount s) (firstLotAt s r)
+  pub second : InLots (lotCount s) (secondLotAt s r)
+  pub next : nextAt s r ≤ recordCount s
+
+-- All that the checks have found of an accepted sheet; `seen` are the records that their walk has reached.
+pub record Sound (s : List ℕ) : Type 0 where
+  pub header : HasHeader s (headerAt s)
+  pub heads : (c : ℕ) → 1 ≤ c → c ≤ conditionCount s → headAt s c ≤ recordCount s
+  pub records : (r : ℕ) → 1 ≤ r → r ≤ recordCount s → SoundRecord s r
+  pub seen : List ℕ
+  pub walk : walked s ≡ reached seen
+  pub every : (r : ℕ) → 1 ≤ r → r ≤ recordCount s → member r seen ≡ true
+
+-- ---- bytes with a header
+
+-- The header stands whole in them, and so does each record.
+pub header-whole : {s : List ℕ} {h : Header} → HasHeader s h → headerLength ≤ length s
+header-whole has = omega arith
+
+pub has-record : {s : List ℕ} {h : Header} → HasHeader s h → (r : ℕ) → 1 ≤ r → r ≤ recordCount s → HasRecord s (conditionCount s) r
+has-record has r low high = record { counted = refl; least = low; whole = omega arith }
+
+-- ---- from tests to facts
+
+either : (a b : Bool) → (a || b) ≡ true → (a ≡ true) ⊎ (b ≡ true)
+either true b e = inl refl
+either false b e = inr e
+
+in-lots : (s : List ℕ) (lot : ℕ) → lotInRange s lot ≡ true → InLots (lotCount s) lot
+in-lots s lot e =
+    let (low, high) = and-eq-true-iff (leb lowestLot lot) (leb lot (lotCount s)) .0 e in
+    record { low = leb-true _ _ low; high = leb-true _ _ high }
+
+well-formed : (s : List ℕ) (r : ℕ) → wellFormed s r ≡ true → SoundRecord s r
+unfolding wellFormed
+well-formed s r e =
+    let (sign, e₁) = and-eq-true-iff _ _ .0 e in
+    let (spare, e₂) = and-eq-true-iff _ _ .0 e₁ in
+    let (first, e₃) = and-eq-true-iff _ _ .0 e₂ in
+    let (second, next) = and-eq-true-iff _ _ .0 e₃ in
+    record {
+      sign = ⊎-map (eqb-true _ _) (eqb-true _ _) (either _ _ sign);
+      spare = eqb-true _ _ spare;
+      first = in-lots s _ first;
+      second = in-lots s _ second;
+      next = leb-true _ _ next;
+    }
+
+walk-passes : (w : Walk) → walkVerdict w ≡ Passes → (seen : List ℕ) × (w ≡ reached seen)
+walk-passes (reached seen) e = (seen, refl)
+walk-passes (twice r) e = ([], cc)
+
+-- ---- what each check has found when it passes
+
+module _ (s : List ℕ) where
+  -- Checks 2 and 3.
+  pub header-found : check2 s ≡ Passes → check3 s ≡ Passes → HasHeader s (headerAt s)
+  unfolding check2 check3
+  header-found limits size =
+      let (lots, e) = orElse-passes _ _ limits in
+      let (conditions, records) = orElse-passes _ _ e in
+      record {
+        counts = refl;
+        lots = ltb-false _ _ (refusesIf-passes _ 2 1 lots);
+        conditions = ltb-false _ _ (refusesIf-passes _ 2 2 conditions);
+        records = ltb-false _ _ (refusesIf-passes _ 2 3 records);
+        whole = eqb-true _ _ (not-false _ (refusesIf-passes _ 3 0 size));
+      }
+
+  -- Check 4.
+  pub heads-found : check4 s ≡ Passes → (c : ℕ) → 1 ≤ c → c ≤ conditionCount s → headAt s c ≤ recordCount s
+  unfolding check4
+  heads-found p c low high = ltb-false _ _ (lowest-passes 4 _ _ _ p c low (omega arith))
+
+  -- Check 5.
+  pub records-found : check5 s ≡ Passes → (r : ℕ) → 1 ≤ r → r ≤ recordCount s → SoundRecord s r
+  unfolding check5
+  records-found p r low high = well-formed s r (not-false _ (lowest-passes 5 _ _ _ p r low (omega arith)))
+
+  -- Check 6.
+  pub walk-found : check6 s ≡ Passes → (seen : List ℕ) × (walked s ≡ reached seen)
+  unfolding check6
+  walk-found p = walk-passes (walked s) p
+
+  -- Check 7.
+  pub every-found : check7 s ≡ Passes → (seen : List ℕ) → walked s ≡ reached seen → (r : ℕ) → 1 ≤ r → r ≤ recordCount s → member r seen ≡ true
+  unfolding check7
+  every-found p seen walk r low high =
+      ap (λ (w : Walk). member r (reachedBy w)) (sym walk) ∙ not-false _ (lowest-passes 7 _ _ _ p r low (omega arith))
+
+  -- All of them.
+  pub sound : Accepted s → Sound s
+  unfolding sheetVerdict sheetChecks
+  sound e =
+      let (p₁, e₁) = firstRefusal-passes _ _ e in
+      let (p₂, e₂) = firstRefusal-passes _ _ e₁ in
+      let (p₃, e₃) = firstRefusal-passes _ _ e₂ in
+      let (p₄, e₄) = firstRefusal-passes _ _ e₃ in
+      let (p₅, e₅) = firstRefusal-passes _ _ e₄ in
+      let (p₆, e₆) = firstRefusal-passes _ _ e₅ in
+      let (p₇, e₇) = firstRefusal-passes _ _ e₆ in
+      let (seen, walk) = walk-found p₆ in
+      record {
+        header = header-found p₂ p₃;
+        heads = heads-found p₄;
+        records = records-found p₅;
+        seen = seen;
+        walk = walk;
+        every = every-found p₇ seen walk;
+      }

@@ -1,0 +1,89 @@
+-- The conditions as a list; how many terms they have, and that every term names lots of the sheet.
+use Prim.Native.Nat.{ℕ, zero, suc, _+_, _≤_, _<_}
+use mathlib.Core.Bool.{Bool, true, false, cond}
+use mathlib.Core.List.{List, [], _∷_, map, flatten, map-append}
+use mathlib.Core.Path.{_≡_, refl, sym, _∙_}
+use native.Mathlib.Omega.{arith}
+use lib.Dec.{eqb}
+use lib.ListN.{length, getD, drop, length-map, drop-of-length-le}
+use lib.Seq.{drop-cons}
+use Rattle.sheet.specs.Format.{lotCount, conditionCount, recordCount, headAt, signAt, firstLotAt, secondLotAt, nextAt}
+use Rattle.sheet.specs.Checks.{Accepted}
+use Rattle.sheet.specs.Conditions.{Term, same, apart, termAt, chain, recordsFrom, termsFrom, countUp, conditionAt, conditions}
+use Rattle.sheet.proofs.Ranges.{length-along, getD-along, All, all-along}
+use Rattle.sheet.proofs.Accepted.{InLots, SoundRecord, sound}
+use Rattle.sheet.proofs.Reached.{linked}
+use Rattle.sheet.proofs.Records.{allRecords, records-length}
+
+-- ---- the list of conditions
+
+map-flatten : {A B : Type 0} (g : A → B) (f : ℕ → List A) (l : List ℕ) → flatten (map (λ c. map g (f c)) l) ≡ map g (flatten (map f l))
+unfolding flatten
+map-flatten g f [] = refl
+map-flatten g f (c ∷ l) = rw (map-flatten g f l) (sym (map-append g (f c) (flatten (map f l))))
+
+module _ (s : List ℕ) where
+  -- There are m.
+  pub conditions-length : length (conditions s) ≡ conditionCount s
+  unfolding conditions
+  conditions-length = length-along (conditionAt s) (conditionCount s) 1
+
+  -- Condition c + 1 stands at place c.
+  pub conditions-at : (c : ℕ) → c < conditionCount s → getD (conditions s) c [] ≡ conditionAt s (suc c)
+  unfolding conditions
+  conditions-at c h = getD-along (conditionAt s) (conditionCount s) 1 c [] h ∙ (let e : 1 + c ≡ suc c = omega arith in rw e)
+
+  -- A loop over them: one more,
+  pub conditions-step : (c : ℕ) → c < conditionCount s → drop c (conditions s) ≡ conditionAt s (suc c) ∷ drop (suc c) (conditions s)
+  conditions-step c h = drop-cons (conditions s) c [] (omega (arith, conditions-length)) ∙ rw (conditions-at c h)
+
+  -- and past the last.
+  pub conditions-end : (c : ℕ) → conditionCount s ≤ c → drop c (conditions s) ≡ []
+  conditions-end c h = drop-of-length-le (conditions s) {i = c} (omega (arith, conditions-length))
+
+  -- Their terms are those of the records of all chains.
+  pub terms-all : flatten (conditions s) ≡ map (termAt s) (allRecords s)
+  unfolding conditions termsFrom
+  terms-all = map-flatten (termAt s) (λ c. recordsFrom s (headAt s c)) (countUp (conditionCount s) 1)
+
+-- ---- the terms of an accepted sheet
+
+-- Both lots of a term are among so many lots.
+abbrev pub TermIn : ℕ → Term → Type 0
+TermIn lots (same a b) = InLots lots a × InLots lots b
+TermIn lots (apart a b) = InLots lots a × InLots lots b
+
+module _ (s : List ℕ) (ok : Accepted s) where
+  -- There are k terms.
+  pub terms-length : length (flatten (conditions s)) ≡ recordCount s
+  terms-length = rw (terms-all s) (length-map (allRecords s) (termAt s) ∙ records-length s ok)
+
+  -- The term of a record names lots of the sheet;
+  pub term-in : (r : ℕ) → 1 ≤ r → r ≤ recordCount s → TermIn (lotCount s) (termAt s r)
+  term-in r low high = go (eqb (signAt s r) 1) (fields .first, fields .second)
+    where
+      fields : SoundRecord s r
+      fields = sound s ok .records r low high
+
+      go : (b : Bool) → InLots (lotCount s) (firstLotAt s r) × InLots (lotCount s) (secondLotAt s r)
+          → TermIn (lotCount s) (cond b (same (firstLotAt s r) (secondLotAt s r)) (apart (firstLotAt s r) (secondLotAt s r)))
+      go true both = both
+      go false both = both
+
+  chain-in : (fuel r : ℕ) → r ≤ recordCount s → All (TermIn (lotCount s)) (map (termAt s) (chain s fuel r))
+  unfolding chain
+  chain-in zero r high = tt
+  chain-in (suc fuel) zero high = tt
+  chain-in (suc fuel) (suc r) high = (term-in (suc r) (omega arith) high, chain-in fuel (nextAt s (suc r)) (linked s ok (suc r) (omega arith) high))
+
+  -- so do those of a chain,
+  pub terms-in : (r : ℕ) → r ≤ recordCount s → All (TermIn (lotCount s)) (termsFrom s r)
+  unfolding termsFrom recordsFrom
+  terms-in r high = chain-in (recordCount s) r high
+
+  -- and those of all conditions.
+  pub conditions-in : All (All (TermIn (lotCount s))) (conditions s)
+  unfolding conditions
+  conditions-in =
+      all-along (conditionAt s) (All (TermIn (lotCount s))) (conditionCount s) 1
+      (λ c low high. terms-in (headAt s c) (sound s ok .heads c low (omega arith)))

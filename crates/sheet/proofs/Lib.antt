@@ -1,0 +1,10 @@
+pub mod Verdicts
+pub mod Times
+pub mod Ranges
+pub mod Distinct
+pub mod Accepted
+pub mod Walks
+pub mod Reached
+pub mod Chains
+pub mod Records
+pub mod Conditions
