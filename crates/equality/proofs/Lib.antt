@@ -1,1 +1,6 @@
 pub mod Meaning
+pub mod Tests
+pub mod Small
+pub mod Classes
+pub mod Least
+pub mod Node

@@ -8,12 +8,17 @@ use lib.Dec.{eqb}
 use lib.ListN.{getD}
 use Rattle.sheet.specs.Format.{mostLots}
 use Rattle.sheet.specs.Conditions.{Term, same, apart, countUp}
-use Rattle.equality.specs.Meaning.{someTerm}
+use Rattle.equality.specs.Meaning.{Holds, someTerm}
 
 -- "A node has a list of decisions: pairs set same and pairs set apart.": a decision is the term that it makes true. The latest comes
 -- first. (The path to the node.)
 abbrev pub Decisions : Type 0
 Decisions = List Term
+
+-- An assignment respects decisions: each of them holds.
+unfoldable pub Respects : {A : Type 0} → (ℕ → A) → Decisions → Type 0
+Respects f [] = Unit {0}
+Respects f (d ∷ ds) = Holds f d × Respects f ds
 
 -- ---- classes (document 01: consignments)
 
