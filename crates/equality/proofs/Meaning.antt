@@ -7,7 +7,7 @@ use mathlib.Core.Path.{_≡_, refl}
 use borrow.Author.Tests.{eqb-true, eqb-false, eq-eqb, ne-eqb, not-true}
 use lib.Dec.{T, eqb}
 use Rattle.sheet.specs.Conditions.{Term, same, apart, conditions}
-use Rattle.equality.specs.Meaning.{Holds, noTerm, SomeTerm, someTerm, MeetsCondition, MeetsAll, Meets, holds, meetsCondition, meetsAll, meets}
+use Rattle.equality.specs.Meaning.{Holds, AnyTerm, anyTerm, noTerm, SomeTerm, someTerm, MeetsCondition, MeetsAll, Meets, holds, meetsCondition, meetsAll, meets}
 
 -- A test that decides a proposition.
 abbrev pub Decides : Bool → Type 0 → Type 0
@@ -25,12 +25,18 @@ decides-both : {A B : Type 0} (a b : Bool) → Decides a A → Decides b B → D
 decides-both true b da db = (λ e. (da .0 refl, db .0 e), λ h. db .1 (h .1))
 decides-both false b da db = (λ e. absurd (false≢true e), λ h. absurd (false≢true (da .1 (h .0))))
 
--- Some term of a condition: the test decides the proposition where it does so at each term.
+-- Some term: the test decides the proposition where it does so at each term.
+any-decides : (p : Term → Bool) (P : Term → Type 0) → ((t : Term) → Decides (p t) (P t))
+    → (ts : List Term) → Decides (anyTerm p ts) (AnyTerm P ts)
+unfolding anyTerm AnyTerm
+any-decides p P each [] = decides-itself false
+any-decides p P each (t ∷ ts) = decides-either (p t) (anyTerm p ts) (each t) (any-decides p P each ts)
+
 pub some-decides : (p : Term → Bool) (P : Term → Type 0) → ((t : Term) → Decides (p t) (P t))
     → (ts : List Term) → Decides (someTerm p ts) (SomeTerm P ts)
 unfolding someTerm SomeTerm
 some-decides p P each [] = decides-itself noTerm
-some-decides p P each (t ∷ ts) = decides-either (p t) (someTerm p ts) (each t) (some-decides p P each ts)
+some-decides p P each (t ∷ ts) = decides-either (p t) (anyTerm p ts) (each t) (any-decides p P each ts)
 
 -- A term, a condition, a sheet.
 pub holds-decides : (f : ℕ → ℕ) (t : Term) → Decides (holds f t) (Holds f t)

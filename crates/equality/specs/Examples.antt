@@ -4,7 +4,7 @@ use Prim.Native.Nat.{ℕ}
 use mathlib.Core.List.{List, [], _∷_, map}
 use mathlib.Core.Path.{_≡_, refl}
 use Rattle.sheet.specs.Conditions.{Term, same, apart, countUp}
-use Rattle.equality.specs.Meaning.{someTerm}
+use Rattle.equality.specs.Meaning.{anyTerm, someTerm}
 use Rattle.equality.specs.Node.{merged, classes, marked, value, taken, groundOrSplit, node}
 use Rattle.equality.specs.Search.{Tree, metLeaf, groundLeaf, oneBranch, twoBranches, isMet, afterSame, visitNode, visit, sameTerms, allSameTerms, searchTree, metDecisions, groupingBytes}
 
@@ -40,9 +40,9 @@ pub trees :
     ∷ twoBranches 1 2 (twoBranches 2 3 (groundLeaf 1) (groundLeaf 4)) (twoBranches 2 3 (groundLeaf 3) (groundLeaf 2))
     ∷ twoBranches 2 1 (groundLeaf 2) (groundLeaf 1)
     ∷ []
-unfolding merged classes marked value taken groundOrSplit node isMet afterSame visitNode visit sameTerms allSameTerms searchTree someTerm countUp
+unfolding merged classes marked value taken groundOrSplit node isMet afterSame visitNode visit sameTerms allSameTerms searchTree anyTerm someTerm countUp
 trees = refl
 
 pub groupingC : groupingBytes 3 (metDecisions (searchTree conditionsC)) ≡ 1 ∷ 2 ∷ 1 ∷ []
-unfolding merged classes marked value taken groundOrSplit node isMet afterSame visitNode visit sameTerms allSameTerms searchTree someTerm countUp metDecisions groupingBytes
+unfolding merged classes marked value taken groundOrSplit node isMet afterSame visitNode visit sameTerms allSameTerms searchTree anyTerm someTerm countUp metDecisions groupingBytes
 groupingC = refl

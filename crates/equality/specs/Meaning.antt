@@ -15,19 +15,28 @@ abbrev pub Holds : {A : Type 0} → (ℕ → A) → Term → Type 0
 Holds f (same a b) = f a ≡ f b
 Holds f (apart a b) = f a ≢ f b
 
--- "Zero: the condition has no term, and no numbering meets it.": what a condition with no term counts for, wherever a rule asks
--- whether some term of a condition is such and such.
+-- Some of these terms is such and such: as a proposition, and as a test.
+unfoldable pub AnyTerm : (Term → Type 0) → List Term → Type 0
+AnyTerm P [] = ⊥
+AnyTerm P (t ∷ ts) = P t ⊎ AnyTerm P ts
+
+unfoldable pub anyTerm : (Term → Bool) → List Term → Bool
+anyTerm p [] = false
+anyTerm p (t ∷ ts) = p t || anyTerm p ts
+
+-- "Zero: the condition has no term, and no numbering meets it.": what a condition with no term counts for, wherever a rule asks whether some
+-- term of a condition is such and such.
 abbrev pub noTerm : Bool
 noTerm = false
 
--- Some term of a condition is such and such: as a proposition, and as a test.
+-- Some term of a condition is such and such.
 unfoldable pub SomeTerm : (Term → Type 0) → List Term → Type 0
 SomeTerm P [] = T noTerm
-SomeTerm P (t ∷ ts) = P t ⊎ SomeTerm P ts
+SomeTerm P (t ∷ ts) = P t ⊎ AnyTerm P ts
 
 unfoldable pub someTerm : (Term → Bool) → List Term → Bool
 someTerm p [] = noTerm
-someTerm p (t ∷ ts) = p t || someTerm p ts
+someTerm p (t ∷ ts) = p t || anyTerm p ts
 
 -- "A condition is met when some term is true"
 abbrev pub MeetsCondition : {A : Type 0} → (ℕ → A) → List Term → Type 0

@@ -8,7 +8,7 @@ use Rattle.sheet.specs.Format.{headAt, signAt, spareAt, firstLotAt, secondLotAt
 use Rattle.sheet.specs.Checks.{firstRefusal, lowestRefusal, check1, check2, check3, check4, wellFormed, check5, member, walkChain, walkChains, walked, check6, check7, sheetChecks, sheetVerdict}
 use Rattle.sheet.specs.Conditions.{chain, recordsFrom, termsFrom, countUp, conditions}
 use Rattle.sheet.specs.Answers.{Answer}
-use Rattle.equality.specs.Meaning.{someTerm}
+use Rattle.equality.specs.Meaning.{anyTerm, someTerm}
 use Rattle.equality.specs.Node.{merged, classes, marked, value, taken, groundOrSplit, node}
 use Rattle.equality.specs.Search.{isMet, afterSame, visitNode, visit, sameTerms, allSameTerms, searchTree, nodeCount, metDecisions, groupingBytes}
 use Rattle.equality.specs.Evaluator.{check8, groupingVerdict, lowestUnmet, evaluateAnswer}
@@ -53,5 +53,5 @@ expected row =
 -- Every starred sheet has the outcome that document 01 gives, down to the last byte of both buffers; its grouping evaluates to 0, or its records
 -- pass the checker; and sheet C prints what document 01 shows.
 pub starred : (map computed starredRows ≡ map expected starredRows) × (printed sheetC ≡ printedC)
-unfolding starredRows rowA rowB rowC rowFull rowD rowEmpty rowNoTerm rowSameSame rowApartSame printedC sheetA sheetB sheetC sheetD sheetEmpty sheetNoTerm sheetSameSame sheetApartSame number twoBytes headAt signAt spareAt firstLotAt secondLotAt nextAt firstRefusal lowestRefusal check1 check2 check3 check4 wellFormed check5 member walkChain walkChains walked check6 check7 sheetChecks sheetVerdict chain recordsFrom termsFrom countUp conditions someTerm merged classes marked value taken groundOrSplit node isMet afterSame visitNode visit sameTerms allSameTerms searchTree nodeCount metDecisions groupingBytes check8 groupingVerdict lowestUnmet evaluateAnswer records encode ofKind decode recordsOf encodeAll searchOutcome groundFails nearest walkFrom check10 walkVerdict listVerdict checkAnswer digits decimal line headerLine recordLine recordLines lastLine refusedLine searchText sheetText printed
+unfolding starredRows rowA rowB rowC rowFull rowD rowEmpty rowNoTerm rowSameSame rowApartSame printedC sheetA sheetB sheetC sheetD sheetEmpty sheetNoTerm sheetSameSame sheetApartSame number twoBytes headAt signAt spareAt firstLotAt secondLotAt nextAt firstRefusal lowestRefusal check1 check2 check3 check4 wellFormed check5 member walkChain walkChains walked check6 check7 sheetChecks sheetVerdict chain recordsFrom termsFrom countUp conditions anyTerm someTerm merged classes marked value taken groundOrSplit node isMet afterSame visitNode visit sameTerms allSameTerms searchTree nodeCount metDecisions groupingBytes check8 groupingVerdict lowestUnmet evaluateAnswer records encode ofKind decode recordsOf encodeAll searchOutcome groundFails nearest walkFrom check10 walkVerdict listVerdict checkAnswer digits decimal line headerLine recordLine recordLines lastLine refusedLine searchText sheetText printed
 starred = (refl, refl)

@@ -9,7 +9,7 @@ use Rattle.sheet.specs.Bytes.{number, twoBytes}
 use Rattle.sheet.specs.Format.{headAt, signAt, spareAt, firstLotAt, secondLotAt, nextAt}
 use Rattle.sheet.specs.Checks.{firstRefusal, lowestRefusal, check1, check2, check3, check4, wellFormed, check5, member, walkChain, walkChains, walked, check6, check7, sheetChecks}
 use Rattle.sheet.specs.Conditions.{chain, recordsFrom, termsFrom, countUp, conditions}
-use Rattle.equality.specs.Meaning.{someTerm}
+use Rattle.equality.specs.Meaning.{anyTerm, someTerm}
 use Rattle.equality.specs.Node.{merged, classes, marked, value}
 use Rattle.store.specs.Records.{NodeRecord, splitRecord, groundRecord, metRecord, encode, encodeAll, ofKind, decode, recordsOf}
 use Rattle.refutation.specs.Walk.{groundFails, nearest, walkFrom, check10, walkVerdict, listVerdict}
@@ -95,5 +95,5 @@ pub verdicts :
     ∷ Refuses 15 1025
     ∷ Refuses 14 1025
     ∷ []
-unfolding number twoBytes headAt signAt spareAt firstLotAt secondLotAt nextAt firstRefusal lowestRefusal check1 check2 check3 check4 wellFormed check5 member walkChain walkChains walked check6 check7 sheetChecks chain recordsFrom termsFrom countUp conditions someTerm merged classes marked value encode encodeAll ofKind decode recordsOf groundFails nearest walkFrom check10 walkVerdict listVerdict splits
+unfolding number twoBytes headAt signAt spareAt firstLotAt secondLotAt nextAt firstRefusal lowestRefusal check1 check2 check3 check4 wellFormed check5 member walkChain walkChains walked check6 check7 sheetChecks chain recordsFrom termsFrom countUp conditions anyTerm someTerm merged classes marked value encode encodeAll ofKind decode recordsOf groundFails nearest walkFrom check10 walkVerdict listVerdict splits
 verdicts = refl
