@@ -1,0 +1,44 @@
+-- Laws of "some term of a condition is such and such" that hold whatever a condition with no term counts for.
+use mathlib.Core.Bool.{Bool, true, false, _||_, false≢true}
+use mathlib.Core.List.{List, [], _∷_}
+use mathlib.Core.Logic.{⊎-elim}
+use mathlib.Core.Path.{_≡_, refl, sym, ap, _∙_, fun-ext}
+use lib.Dec.{T}
+use Rattle.sheet.specs.Conditions.{Term}
+use Rattle.sheet.proofs.Ranges.{All}
+use Rattle.equality.specs.Meaning.{AnyTerm, anyTerm, noTerm, SomeTerm, someTerm}
+
+or-false : (p q : Bool) → (p || q) ≡ false → (p ≡ false) × (q ≡ false)
+or-false true q e = absurd (false≢true (sym e))
+or-false false q e = (refl, e)
+
+none-any : (P : Term → Type 0) (ts : List Term) → All (λ t. ¬ P t) ts → ¬ AnyTerm P ts
+unfolding AnyTerm
+none-any P [] none = λ h. h
+none-any P (t ∷ ts) none = ⊎-elim (none .0) (none-any P ts (none .1))
+
+module _ (p : Term → Bool) where
+  any-none : (ts : List Term) → anyTerm p ts ≡ false → All (λ t. p t ≡ false) ts
+  unfolding anyTerm
+  any-none [] e = tt
+  any-none (t ∷ ts) e = let both = or-false (p t) (anyTerm p ts) e in (both .0, any-none ts (both .1))
+
+  -- Where no term is such, each is not.
+  pub some-none : (ts : List Term) → someTerm p ts ≡ false → All (λ t. p t ≡ false) ts
+  unfolding someTerm
+  some-none [] e = tt
+  some-none (t ∷ ts) e = let both = or-false (p t) (anyTerm p ts) e in (both .0, any-none ts (both .1))
+
+  -- Two tests that agree at each term agree on the condition.
+  pub some-agrees : (q : Term → Bool) → ((t : Term) → p t ≡ q t) → (ts : List Term) → someTerm p ts ≡ someTerm q ts
+  some-agrees q each ts = ap (λ (r : Term → Bool). someTerm r ts) (fun-ext each)
+
+  -- A condition of which no term is such, by the test, has no term that is otherwise, where none of its terms is.
+  pub none-some : (P : Term → Type 0) (ts : List Term) → someTerm p ts ≡ false → All (λ t. ¬ P t) ts → ¬ SomeTerm P ts
+  unfolding someTerm SomeTerm
+  none-some P [] e none = impossible noTerm e
+    where
+      impossible : (b : Bool) → b ≡ false → ¬ T b
+      impossible true e h = false≢true (sym e)
+      impossible false e h = h
+  none-some P (t ∷ ts) e none = ⊎-elim (none .0) (none-any P ts (none .1))
