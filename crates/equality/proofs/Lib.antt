@@ -6,3 +6,4 @@ pub mod Classes
 pub mod Least
 pub mod Node
 pub mod Steps
+pub mod Rule
