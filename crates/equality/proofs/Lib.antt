@@ -7,3 +7,5 @@ pub mod Least
 pub mod Node
 pub mod Steps
 pub mod Rule
+pub mod Opens
+pub mod Visits
