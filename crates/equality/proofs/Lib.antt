@@ -9,3 +9,6 @@ pub mod Steps
 pub mod Rule
 pub mod Opens
 pub mod Visits
+pub mod Right
+pub mod Truth
+pub mod Bounds

@@ -196,3 +196,19 @@ module _ (ds : Decisions) (tss : List (List Term)) where
       go (takes c ts) q e =
           let at = taken-at ds 1 tss c ts q in
           record { condition = c; terms = ts; taken = at; first = open-at ds c ts a b (taken-values ds ts (at .unmet)) e }
+
+-- Every term of a ground's condition is false.
+pub ground-false : {ds : Decisions} {tss : List (List Term)} {c : ℕ} (at : GroundAt ds tss c) → All (λ t. value ds t ≡ isFalse) (at .terms)
+ground-false {ds} at = falses (at .terms) (taken-values ds (at .terms) (at .taken .unmet)) (at .closed)
+  where
+    false-one : (t : Term) → value ds t ≡ openSame ds t → value ds t ≢ isOpen → value ds t ≡ isFalse
+    false-one (same a b) e n = go (markedApart ds a b) e
+      where
+        go : (p : Bool) → value ds (same a b) ≡ cond p isFalse isOpen → value ds (same a b) ≡ isFalse
+        go true e = e
+        go false e = absurd (n e)
+    false-one (apart a b) e n = e
+
+    falses : (ts : List Term) → All (λ t. value ds t ≡ openSame ds t) ts → All (λ t. value ds t ≢ isOpen) ts → All (λ t. value ds t ≡ isFalse) ts
+    falses [] e n = tt
+    falses (t ∷ ts) e n = (false-one t (e .0) (n .0), falses ts (e .1) (n .1))

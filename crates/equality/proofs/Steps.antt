@@ -86,14 +86,14 @@ abbrev pub SmallPair : ℕ → ℕ → Type 0
 SmallPair u v = (u ≤ mostLots) × (v ≤ mostLots)
 
 module _ (ds : Decisions) (a b : ℕ) where
-  share-kept : (u v : ℕ) → SmallPair u v → share ds u v ≡ true → share (same a b ∷ ds) u v ≡ true
+  pub share-kept : (u v : ℕ) → SmallPair u v → share ds u v ≡ true → share (same a b ∷ ds) u v ≡ true
   share-kept u v h e =
       eq-eqb _ _
       (same-class ds a b u (h .0)
       ∙ ap (joinedTo (smallestLot ds a) (smallestLot ds b)) (eqb-true _ _ e)
       ∙ sym (same-class ds a b v (h .1)))
 
-  marked-kept : All Small ds → (u v : ℕ) → SmallPair u v → markedApart ds u v ≡ true → markedApart (same a b ∷ ds) u v ≡ true
+  pub marked-kept : All Small ds → (u v : ℕ) → SmallPair u v → markedApart ds u v ≡ true → markedApart (same a b ∷ ds) u v ≡ true
   unfolding marked
   marked-kept small u v h e =
       rw (same-class ds a b u (h .0), same-class ds a b v (h .1))

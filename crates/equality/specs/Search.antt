@@ -1,5 +1,5 @@
 -- The nodes that the search visits (document 01, "One node of the search", from "The search starts" on), without regard to any store.
-use Prim.Native.Nat.{ℕ, zero, suc, _+_, _*_}
+use Prim.Native.Nat.{ℕ, zero, suc, _+_, _*_, max}
 use mathlib.Core.Bool.{Bool, true, false}
 use mathlib.Core.List.{List, [], _∷_}
 use lib.ListN.{take, drop}
@@ -58,6 +58,13 @@ nodeCount (metLeaf ds) = 1
 nodeCount (groundLeaf c) = 1
 nodeCount (oneBranch a b t) = 1 + nodeCount t
 nodeCount (twoBranches a b t u) = 1 + (nodeCount t + nodeCount u)
+
+-- The most splits on a path.
+unfoldable pub depth : Tree → ℕ
+depth (metLeaf ds) = 0
+depth (groundLeaf c) = 0
+depth (oneBranch a b t) = suc (depth t)
+depth (twoBranches a b t u) = suc (max (depth t) (depth u))
 
 -- The decisions of the met node; none where there is no met node.
 unfoldable pub metDecisions : Tree → Decisions

@@ -1,0 +1,108 @@
+-- The search is right about every assignment: a met node's classes meet the conditions (theorem 2), and where no node is met nobody's do
+-- (theorem 3).
+use Prim.Native.Nat.{ℕ}
+use mathlib.Core.Bool.{Bool, true, false, _&&_, false≢true}
+use mathlib.Core.List.{List, [], _∷_, _++_}
+use mathlib.Core.Logic.{_≢_, _↔_}
+use mathlib.Core.Path.{_≡_, refl, sym, ap, _∙_}
+use native.Mathlib.Decide.{ℕ-discrete}
+use native.Mathlib.Omega.{arith}
+use Rattle.sheet.specs.Conditions.{Term, same, apart}
+use Rattle.sheet.proofs.Ranges.{All}
+use Rattle.equality.specs.Meaning.{Holds, MeetsCondition, MeetsAll, meetsCondition, meetsAll}
+use Rattle.equality.specs.Node.{Decisions, Respects, smallestLot, Value, isTrue, isFalse, isOpen, value, trueOrOpenApart, passedOver, Node, met, ground, split, node}
+use Rattle.equality.specs.Search.{Tree, metLeaf, groundLeaf, oneBranch, twoBranches, isMet, metDecisions, searchTree}
+use Rattle.equality.proofs.Meaning.{all-decides}
+use Rattle.equality.proofs.Some.{some-none, none-some}
+use Rattle.equality.proofs.Small.{Small, all-map}
+use Rattle.equality.proofs.Classes.{Says, value-says}
+use Rattle.equality.proofs.Node.{passed-by-classes, openSame, taken-values}
+use Rattle.equality.proofs.Rule.{GroundAt, met-passed, ground-at, ground-false, split-at}
+use Rattle.equality.proofs.Opens.{all-at, pair-small}
+use Rattle.equality.proofs.Visits.{Visits, visits-met, visits-ground, visits-one, visits-two, search-visits}
+
+-- ---- met
+
+passed-meets : (ds : Decisions) (tss : List (List Term)) → All (λ ts. passedOver ds ts ≡ true) tss → meetsAll (smallestLot ds) tss ≡ true
+unfolding meetsAll
+passed-meets ds [] all = refl
+passed-meets ds (ts ∷ tss) all = rw (sym (passed-by-classes ds ts) ∙ all .0) (passed-meets ds tss (all .1))
+
+-- The decisions of a tree's met node are those of a met node,
+pub met-node : {tss : List (List Term)} {ds : Decisions} {t : Tree} → Visits tss ds t → isMet t ≡ true → node (metDecisions t) tss ≡ met
+unfolding isMet metDecisions
+met-node (visits-met e) m = e
+met-node (visits-ground e) m = absurd (false≢true m)
+met-node (visits-one e v q) m = met-node v m
+met-node (visits-two e v q w) m = met-node w m
+
+-- and their classes meet the conditions.
+pub met-meets : {tss : List (List Term)} {ds : Decisions} {t : Tree} → Visits tss ds t → isMet t ≡ true → meetsAll (smallestLot (metDecisions t)) tss ≡ true
+met-meets {tss} {t = t} v m = passed-meets (metDecisions t) tss (met-passed (metDecisions t) tss (met-node v m))
+
+-- ---- cannot
+
+meets-at : {A : Type 0} (f : ℕ → A) (front : List (List Term)) (ts : List Term) (back : List (List Term))
+    → MeetsAll f (front ++ ts ∷ back) → MeetsCondition f ts
+unfolding MeetsAll
+meets-at f [] ts back h = h .0
+meets-at f (us ∷ front) ts back h = meets-at f front ts back (h .1)
+
+module _ {A : Type 0} (decide : (x y : A) → Dec (x ≡ y)) (f : ℕ → A) (tss : List (List Term)) (smalls : All (All Small) tss) where
+  -- At a ground every term of the condition is false of an assignment that respects the decisions, so it does not meet the condition.
+  pub ground-unmet : (ds : Decisions) → All Small ds → Respects f ds → (ts : List Term) → All Small ts
+      → passedOver ds ts ≡ false → All (λ t. value ds t ≡ isFalse) ts → ¬ MeetsCondition f ts
+  ground-unmet ds small respects ts smallTerms unmet allFalse =
+      none-some (λ t. trueOrOpenApart t (value ds t)) (Holds f) ts unmet (falses ts smallTerms allFalse)
+    where
+      falses : (ts : List Term) → All Small ts → All (λ t. value ds t ≡ isFalse) ts → All (λ t. ¬ Holds f t) ts
+      falses [] small′ all = tt
+      falses (t ∷ ts) small′ all =
+          let says : Says f ds small respects isFalse t = rw (all .0) at (value-says f ds small respects t (small′ .0)) in
+          (says, falses ts (small′ .1) (all .1))
+
+  -- Theorem 3, under any decisions.
+  pub cannot-under : {ds : Decisions} {t : Tree} → Visits tss ds t → isMet t ≡ false → All Small ds → Respects f ds → ¬ MeetsAll f tss
+  unfolding isMet Respects
+  cannot-under (visits-met e) m small respects meets′ = false≢true (sym m)
+  cannot-under {ds} (visits-ground {c = c} e) m small respects meets′ = grounded (ground-at ds tss c e)
+    where
+      grounded : GroundAt ds tss c → ⊥
+      grounded at =
+          let placed = at .taken .place in
+          ground-unmet ds small respects (at .terms)
+          (all-at (All Small) (at .taken .front) (at .terms) (at .taken .back) (rw placed at smalls))
+          (at .taken .unmet)
+          (ground-false at)
+          (meets-at f (at .taken .front) (at .terms) (at .taken .back) (rw placed at meets′))
+  cannot-under (visits-one e v q) m small respects meets′ = false≢true (sym m ∙ q)
+  cannot-under {ds} (visits-two {a = a} {b = b} e v q w) m small respects meets′ =
+      let pair = pair-small ds small tss smalls a b (split-at ds tss a b e) in
+      branch (decide (f a) (f b))
+      (λ equal. cannot-under v q (pair, small) (equal, respects) meets′)
+      (λ differ. cannot-under w m (pair, small) (differ, respects) meets′)
+    where
+      branch : Dec (f a ≡ f b) → (f a ≡ f b → ⊥) → (f a ≢ f b → ⊥) → ⊥
+      branch (yes e) equal differ = equal e
+      branch (no e) equal differ = differ e
+
+-- ---- the search
+
+module _ (tss : List (List Term)) (smalls : All (All Small) tss) where
+  -- Theorem 2: where the search meets a node, the classes there meet the conditions.
+  pub search-met : isMet (searchTree tss) ≡ true → meetsAll (smallestLot (metDecisions (searchTree tss))) tss ≡ true
+  search-met m = met-meets (search-visits tss smalls) m
+
+  -- Theorem 3: where it meets none, no assignment meets them, with values of any type whose equality is decidable.
+  pub search-cannot : isMet (searchTree tss) ≡ false → {A : Type 0} → ((x y : A) → Dec (x ≡ y)) → (f : ℕ → A) → ¬ MeetsAll f tss
+  unfolding Respects
+  search-cannot m decide f = cannot-under decide f tss smalls (search-visits tss smalls) m tt tt
+
+  -- So the search meets a node exactly when some assignment into the naturals meets the conditions.
+  pub search-decides : isMet (searchTree tss) ≡ true ↔ (f : ℕ → ℕ) × MeetsAll f tss
+  search-decides =
+      ((λ m. (smallestLot (metDecisions (searchTree tss)), all-decides _ tss .0 (search-met m))), (λ h. go (isMet (searchTree tss)) refl h))
+    where
+      go : (m : Bool) → isMet (searchTree tss) ≡ m → (f : ℕ → ℕ) × MeetsAll f tss → m ≡ true
+      go true e h = refl
+      go false e h = absurd (search-cannot e ℕ-discrete (h .0) (h .1))
