@@ -12,3 +12,4 @@ pub mod Visits
 pub mod Right
 pub mod Truth
 pub mod Bounds
+pub mod Branching

@@ -28,7 +28,7 @@ allOpens ds [] = 0
 allOpens ds (ts ∷ tss) = opens ds ts + allOpens ds tss
 
 -- They are at most the "same" terms.
-opens-same : (ds : Decisions) (ts : List Term) → opens ds ts ≤ sameTerms ts
+pub opens-same : (ds : Decisions) (ts : List Term) → opens ds ts ≤ sameTerms ts
 unfolding opens sameTerms
 opens-same ds [] = omega arith
 opens-same ds (same a b ∷ ts) = go (closed ds a b) (opens-same ds ts)

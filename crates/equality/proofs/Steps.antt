@@ -114,11 +114,14 @@ module _ (ds : Decisions) (a b : ℕ) where
       (λ q. simp (q, or-true))
 
   -- and the pair decided is closed.
-  pub same-closes : SmallPair a b → closed (same a b ∷ ds) a b ≡ true
-  same-closes h = simp (eq-eqb _ _ (same-class ds a b a (h .0) ∙ joined (smallestLot ds a) (smallestLot ds b) ∙ sym (same-class ds a b b (h .1))))
+  pub same-shares : SmallPair a b → share (same a b ∷ ds) a b ≡ true
+  same-shares h = eq-eqb _ _ (same-class ds a b a (h .0) ∙ joined (smallestLot ds a) (smallestLot ds b) ∙ sym (same-class ds a b b (h .1)))
     where
       joined : (x y : ℕ) → joinedTo x y x ≡ joinedTo x y y
       joined x y = simp (eqb-self, or-true)
+
+  pub same-closes : SmallPair a b → closed (same a b ∷ ds) a b ≡ true
+  same-closes h = simp (same-shares h)
 
   pub apart-closes : closed (apart a b ∷ ds) a b ≡ true
   unfolding classes marked
