@@ -5,6 +5,12 @@ pub mod Distinct
 pub mod Accepted
 pub mod Walks
 pub mod Reached
-pub mod Chains
+pub mod ChainEnds
 pub mod Records
 pub mod Conditions
+mod Headers
+mod Formed
+mod Loops
+mod Marks
+mod Walking
+mod Passed

@@ -14,7 +14,7 @@ use Rattle.sheet.proofs.Ranges.{map-agrees}
 use Rattle.sheet.proofs.Distinct.{Distinct, distinct-part, distinct-length, covering-length}
 use Rattle.sheet.proofs.Accepted.{sound}
 use Rattle.sheet.proofs.Reached.{walkedChain, all-reached}
-use Rattle.sheet.proofs.Chains.{chain-fuel}
+use Rattle.sheet.proofs.ChainEnds.{chain-fuel}
 
 -- The records of all chains, by condition.
 abbrev pub allRecords : List ℕ → List ℕ

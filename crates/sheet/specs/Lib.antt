@@ -3,3 +3,4 @@ pub mod Format
 pub mod Checks
 pub mod Conditions
 pub mod Answers
+pub mod Marks

@@ -1,4 +1,11 @@
 // Condition sheets: the format's words, and the reader.
+pub mod format; // format.rt: numbers, heads and records in a sheet's bytes
+mod checks; // checks.rt: checks 1 to 5 and 7
+mod chains; // chains.rt: check 6, and with it check 7
+
+ghost use mathlib.Core.Path.{_≡_};
+ghost use Rattle.sheet.specs.Checks.{sheetVerdict};
+ghost use Rattle.sheet.specs.Answers.{readAnswer, readingAnswer};
 
 // Lot numbers, condition numbers and record numbers each count from 1 on their own; none is ever used for another.
 pub struct Lot(pub u16);
@@ -39,4 +46,42 @@ pub enum Reading {
         check: u32,
         place: u32,
     },
+}
+// The sheet reader: the header's counts, or the first check that fails, for any bytes at all.
+pub fn read(sheet: &[u8]) -> Reading
+    ensures { λ r. ⌜ readingAnswer r ≡ readAnswer (now (sheet .entry)) ⌝ }
+{
+    let v = first_refusal(sheet);
+    match v {
+        Verdict::Refuses(check, place) => Reading::Refused { check, place },
+        Verdict::Passes => {
+            let h = format::header_of(sheet);
+            Reading::Accepted {
+                lots: h.lots,
+                conditions: h.conditions,
+                terms: h.records,
+            }
+        }
+    }
+}
+
+// The first of checks 1 to 7 that refuses. Heads are read once by check 4 and once by the walk, records once by check 5, and of
+// each record its next once more by the walk.
+fn first_refusal(sheet: &[u8]) -> Verdict
+    ensures { λ v. ⌜ v ≡ sheetVerdict (now (sheet .entry)) ⌝ }
+{
+    let counted = checks::header(sheet);
+    if let Verdict::Refuses(_, _) = counted {
+        return counted;
+    }
+    let h = format::header_of(sheet);
+    let headed = checks::heads(sheet, h);
+    if let Verdict::Refuses(_, _) = headed {
+        return headed;
+    }
+    let formed = checks::records(sheet, h);
+    if let Verdict::Refuses(_, _) = formed {
+        return formed;
+    }
+    chains::check(sheet, h)
 }

@@ -1,0 +1,17 @@
+use borrow.Author.Needs.{needs}
+use borrow.Author.Tests.{le-leb, lt-leb}
+use Rattle.sheet.proofs.checks.lot_in_range.Statement.{statement}
+use Rattle.sheet.proofs.checks.lot_in_range.Tie as tie
+use Rattle.sheet.proofs.checks.lot_in_range.Reads as reads
+use Rattle.sheet.proofs.checks.lot_in_range.Lts as lts
+
+-- src/checks.rt:86:1
+returns : tie.Need-returns
+returns c = simp (le-leb _ _ (c .before .before .if1 .taken))
+
+-- src/checks.rt:86:1
+returns-2 : tie.Need-returns-2
+returns-2 c = simp (lt-leb _ _ (c .if1 .left))
+
+pub lot-in-range-spec : {M : Type 1} → statement M
+lot-in-range-spec = tie.close (tie.spec returns returns-2)

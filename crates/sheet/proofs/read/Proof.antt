@@ -1,0 +1,50 @@
+use borrow.Author.Needs.{needs}
+use mathlib.Core.Path.{sym, _∙_}
+use mathlib.Core.List.{List}
+use Prim.Native.Nat.{ℕ}
+use Rattle.sheet.specs.Answers.{readAnswer}
+use Rattle.sheet.proofs.Passed.{long-enough, header-passed}
+use Rattle.sheet.proofs.read.Statement.{statement}
+use Rattle.sheet.proofs.read.Tie as tie
+use Rattle.sheet.proofs.read.Reads as reads
+use Rattle.sheet.proofs.read.Lts as lts
+use Rattle.sheet.proofs.first_refusal.Reads as first-refusal-reads
+use Rattle.sheet.proofs.format.header_of.Reads as header-of-reads
+
+-- src/lib.rt:54:9
+first-refusal-requires : tie.Need-first-refusal-requires
+first-refusal-requires c κs = search needs
+
+-- src/lib.rt:56:26
+enum-known-v : tie.Need-enum-known-v
+enum-known-v c = search needs
+
+-- src/lib.rt:58:17
+enum-told : tie.Need-enum-told
+enum-told c = search needs
+
+-- src/lib.rt:58:17
+header-of-requires : tie.Need-header-of-requires
+header-of-requires c κs =
+    let v = c .before .before in
+    let s : List ℕ = v .before .before .args .sheet .now in
+    long-enough s (header-passed s (sym (v .first-refusal .ensures) ∙ c .enum-told .given .1))
+
+-- src/lib.rt:51:1
+returns : tie.Need-returns
+unfolding readAnswer
+returns c =
+    let v = c .before .before .before in
+    rw (sym (v .first-refusal .ensures) ∙ c .before .v .given .1)
+
+-- src/lib.rt:51:1
+returns-2 : tie.Need-returns-2
+unfolding readAnswer
+returns-2 c =
+    let v = c .before .before .before in
+    rw (sym (v .first-refusal .ensures) ∙ c .before .enum-told .given .1, c .header-of .ensures)
+
+pub read-spec : {M : Type 1} → statement M
+read-spec =
+    tie.close
+    (tie.spec first-refusal-requires enum-known-v enum-told header-of-requires returns returns-2)

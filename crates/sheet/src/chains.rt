@@ -1,0 +1,73 @@
+// Check 6: each record is reached at most once.
+ghost use mathlib.Core.Path.{_≡_};
+ghost use mathlib.Core.List.{List, []};
+ghost use Prim.Native.Nat.{ℕ, _≤_};
+ghost use Rattle.sheet.specs.Format.{HasHeader, recordCount};
+ghost use Rattle.sheet.specs.Checks.{walked, orElse, check4, check5, check6, check7};
+ghost use Rattle.sheet.specs.declared.Verdict.the-variants.{Passes};
+ghost use Rattle.sheet.specs.Marks.{Marks, Walkable, WalkedTo, oneChain};
+use crate::Condition;
+use crate::Header;
+use crate::Record;
+use crate::Verdict;
+use crate::checks;
+use crate::format;
+
+// One chain, from its head to the zero. It ends since each step marks a record that was not marked before.
+fn walk_chain(sheet: &[u8], h: Header, head: Record, marks: &mut [u8]) -> Verdict
+    requires { ⌜ Walkable (now sheet) h (now marks) × (head .0 ≤ recordCount (now sheet)) ⌝ }
+    ensures { λ v. ⌜ ((seen : List ℕ) → Marks (now (marks .entry)) seen
+        → WalkedTo (oneChain (now (sheet .entry)) seen (head .0)) v (now (marks .exit))) ⌝ }
+{
+    let m = h.conditions;
+    let mut at = head;
+    while at.0 != 0 {
+        let i = (at.0 - 1) as usize;
+        if marks[i] == 1 {
+            return Verdict::Refuses(6, at.0 as u32);
+        }
+        marks[i] = 1;
+        at = format::next_at(sheet, m, at);
+    }
+    Verdict::Passes
+}
+
+// The chains of all conditions, walked in order.
+fn walk(sheet: &[u8], h: Header, marks: &mut [u8]) -> Verdict
+    requires { ⌜ Walkable (now sheet) h (now marks) × Marks (now marks) [] ⌝ }
+    ensures { λ v. ⌜ WalkedTo (walked (now (sheet .entry))) v (now (marks .exit)) ⌝ }
+{
+    let m = h.conditions;
+    let mut c: u16 = 1;
+    while c <= m {
+        let head = format::head_at(sheet, Condition(c));
+        let v = walk_chain(sheet, h, head, marks);
+        if let Verdict::Refuses(_, _) = v {
+            return v;
+        }
+        c += 1;
+    }
+    Verdict::Passes
+}
+
+// Checks 6 and 7: each record is reached, and once. No mark is set yet.
+fn reached_once(sheet: &[u8], h: Header, marks: &mut [u8]) -> Verdict
+    requires { ⌜ Walkable (now sheet) h (now marks) × Marks (now marks) [] ⌝ }
+    ensures { λ v. ⌜ v ≡ orElse (check6 (now (sheet .entry))) (check7 (now (sheet .entry))) ⌝ }
+{
+    let v = walk(sheet, h, marks);
+    if let Verdict::Refuses(_, _) = v {
+        return v;
+    }
+    checks::reached(marks)
+}
+
+// Checks 6 and 7, once checks 1 to 5 have passed.
+pub(crate) fn check(sheet: &[u8], h: Header) -> Verdict
+    requires { ⌜ HasHeader (now sheet) h × (check4 (now sheet) ≡ Passes) × (check5 (now sheet) ≡ Passes) ⌝ }
+    ensures { λ v. ⌜ v ≡ orElse (check6 (now (sheet .entry))) (check7 (now (sheet .entry))) ⌝ }
+{
+    let k = h.records as usize;
+    let mut marks = [0u8; 1024];
+    reached_once(sheet, h, &mut marks[..k])
+}

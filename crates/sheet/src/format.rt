@@ -1,0 +1,81 @@
+// Numbers, heads and records in a sheet's bytes.
+ghost use mathlib.Core.Path.{_≡_};
+ghost use Prim.Native.Nat.{_+_, _*_, _≤_};
+ghost use lib.ListN.{length};
+ghost use Rattle.sheet.specs.Bytes.{number};
+ghost use Rattle.sheet.specs.Format.{recordPlace, headAt, spareAt, nextAt, headerAt, termRecordAt, HasRecord};
+use crate::Condition;
+use crate::Header;
+use crate::Lot;
+use crate::Record;
+use crate::Term;
+
+// The two-byte number at a place, low byte first.
+pub fn number_at(s: &[u8], i: usize) -> u16
+    requires { ⌜ i + 2 ≤ length (now s) ⌝ }
+    ensures { λ r. ⌜ r ≡ number (now (s .entry)) i ⌝ }
+{
+    (s[i] as u16) + 256 * (s[i + 1] as u16)
+}
+
+// The counts of the header.
+pub fn header_of(sheet: &[u8]) -> Header
+    requires { ⌜ 6 ≤ length (now sheet) ⌝ }
+    ensures { λ h. ⌜ h ≡ headerAt (now (sheet .entry)) ⌝ }
+{
+    Header {
+        lots: number_at(sheet, 0),
+        conditions: number_at(sheet, 2),
+        records: number_at(sheet, 4),
+    }
+}
+
+// The record of a condition's first term; zero: it has no term.
+pub fn head_at(sheet: &[u8], c: Condition) -> Record
+    requires { ⌜ (1 ≤ c .0) × (6 + 2 * c .0 ≤ length (now sheet)) ⌝ }
+    ensures { λ r. ⌜ r .0 ≡ headAt (now (sheet .entry)) (c .0) ⌝ }
+{
+    let n = c.0 as usize;
+    Record(number_at(sheet, 6 + 2 * (n - 1)))
+}
+
+// Where a record begins, after the header and m heads.
+pub fn record_place(m: u16, r: Record) -> usize
+    requires { ⌜ 1 ≤ r .0 ⌝ }
+    ensures { λ p. ⌜ p ≡ recordPlace m (r .0) ⌝ }
+{
+    let n = r.0 as usize;
+    6 + 2 * (m as usize) + 8 * (n - 1)
+}
+
+// The spare byte of a record.
+pub fn spare_at(sheet: &[u8], m: u16, r: Record) -> u8
+    requires { ⌜ HasRecord (now sheet) m (r .0) ⌝ }
+    ensures { λ b. ⌜ b ≡ spareAt (now (sheet .entry)) (r .0) ⌝ }
+{
+    let p = record_place(m, r);
+    sheet[p + 1]
+}
+
+// The record of the following term; zero ends the chain.
+pub fn next_at(sheet: &[u8], m: u16, r: Record) -> Record
+    requires { ⌜ HasRecord (now sheet) m (r .0) ⌝ }
+    ensures { λ n. ⌜ n .0 ≡ nextAt (now (sheet .entry)) (r .0) ⌝ }
+{
+    let p = record_place(m, r);
+    Record(number_at(sheet, p + 6))
+}
+
+// The term at a record.
+pub fn term_at(sheet: &[u8], m: u16, r: Record) -> Term
+    requires { ⌜ HasRecord (now sheet) m (r .0) ⌝ }
+    ensures { λ t. ⌜ t ≡ termRecordAt (now (sheet .entry)) (r .0) ⌝ }
+{
+    let p = record_place(m, r);
+    Term {
+        sign: sheet[p],
+        a: Lot(number_at(sheet, p + 2)),
+        b: Lot(number_at(sheet, p + 4)),
+        next: Record(number_at(sheet, p + 6)),
+    }
+}
