@@ -1,0 +1,76 @@
+use borrow.Author.Needs.{needs}
+use Prim.Native.Nat.{_≤_, _-_}
+use lib.ListN.{length}
+use Rattle.reader_cases.proofs.line.number_at.Statement.{statement}
+use Rattle.reader_cases.proofs.line.number_at.Tie as tie
+use Rattle.reader_cases.proofs.line.number_at.Reads as reads
+use Rattle.reader_cases.proofs.line.number_at.Lts as lts
+use Rattle.reader_cases.proofs.line.skip.Reads as skip-reads
+
+abbrev Inv-loop : tie.InvT-loop
+Inv-loop text at i₀ value₀ i value = (at ≤ i) × (i ≤ length text) × (value ≤ 65540)
+
+abbrev μ-loop : tie.MeasureT-loop
+μ-loop text at i₀ value₀ i value = length text - i
+
+-- src/line.rt:46:9
+skip-requires : tie.Need-skip-requires Inv-loop μ-loop
+skip-requires c κs = search needs
+
+-- src/line.rt:48:5
+loop-holds : tie.Need-loop-holds Inv-loop μ-loop
+loop-holds c = search needs
+
+-- src/line.rt:49:20
+shared-slice-read-byte : tie.Need-shared-slice-read-byte Inv-loop μ-loop
+shared-slice-read-byte c = search needs
+
+-- src/line.rt:59:17
+mul-value : tie.Need-mul-value Inv-loop μ-loop
+mul-value c = search needs
+
+-- src/line.rt:59:31
+cast-value : tie.Need-cast-value Inv-loop μ-loop
+cast-value c = search needs
+
+-- src/line.rt:59:17
+add-value : tie.Need-add-value Inv-loop μ-loop
+add-value c = search needs
+
+-- src/line.rt:60:9
+add-i : tie.Need-add-i Inv-loop μ-loop
+add-i c = search needs
+
+-- src/line.rt:48:5
+loop-less : tie.Need-loop-less Inv-loop μ-loop
+loop-less c = search needs
+
+-- src/line.rt:48:5
+loop-again : tie.Need-loop-again Inv-loop μ-loop
+loop-again c = search needs
+
+-- src/line.rt:63:16
+cast-t13 : tie.Need-cast-t13 Inv-loop μ-loop
+cast-t13 c = search needs
+
+-- src/line.rt:42:1
+returns : tie.Need-returns Inv-loop μ-loop
+returns c = search needs
+
+pub number-at-spec : {M : Type 1} → statement M
+number-at-spec =
+    tie.close
+    (tie.spec
+    Inv-loop
+    μ-loop
+    skip-requires
+    loop-holds
+    shared-slice-read-byte
+    mul-value
+    cast-value
+    add-value
+    add-i
+    loop-less
+    loop-again
+    cast-t13
+    returns)
