@@ -62,20 +62,20 @@ pub record Grows (ds ds′ : Decisions) : Type 0 where
   pub trues : (t : Term) → Small t → value ds t ≡ isTrue → value ds′ t ≡ isTrue
 
 module _ (ds ds′ : Decisions) (grows : Grows ds ds′) where
-  has-true-kept : (ts : List Term) → All Small ts → hasTrue ds ts ≡ true → hasTrue ds′ ts ≡ true
+  has-true-stays : (ts : List Term) → All Small ts → hasTrue ds ts ≡ true → hasTrue ds′ ts ≡ true
   unfolding anyTerm
-  has-true-kept [] small e = absurd (false≢true e)
-  has-true-kept (t ∷ ts) small e =
+  has-true-stays [] small e = absurd (false≢true e)
+  has-true-stays (t ∷ ts) small e =
       or-cases (isTrueValue (value ds t)) (hasTrue ds ts) e
       (λ h. rw (grows .trues t (small .0) (true-value (value ds t) h)))
-      (λ h. simp (has-true-kept ts (small .1) h, or-true))
+      (λ h. simp (has-true-stays ts (small .1) h, or-true))
 
   weight-falls : (ts : List Term) → All Small ts → weight ds′ ts ≤ weight ds ts
   weight-falls ts small = go (hasTrue ds ts) (hasTrue ds′ ts) refl refl
     where
       go : (p q : Bool) → hasTrue ds ts ≡ p → hasTrue ds′ ts ≡ q → cond q 1 (suc (opens ds′ ts)) ≤ cond p 1 (suc (opens ds ts))
       go true true ep eq = omega arith
-      go true false ep eq = absurd (false≢true (sym eq ∙ has-true-kept ts small ep))
+      go true false ep eq = absurd (false≢true (sym eq ∙ has-true-stays ts small ep))
       go false true ep eq = omega arith
       go false false ep eq = omega (arith, opens-fall ds ds′ (grows .closes) ts small)
 

@@ -86,16 +86,16 @@ abbrev pub SmallPair : ℕ → ℕ → Type 0
 SmallPair u v = (u ≤ mostLots) × (v ≤ mostLots)
 
 module _ (ds : Decisions) (a b : ℕ) where
-  pub share-kept : (u v : ℕ) → SmallPair u v → share ds u v ≡ true → share (same a b ∷ ds) u v ≡ true
-  share-kept u v h e =
+  pub share-stays : (u v : ℕ) → SmallPair u v → share ds u v ≡ true → share (same a b ∷ ds) u v ≡ true
+  share-stays u v h e =
       eq-eqb _ _
       (same-class ds a b u (h .0)
       ∙ ap (joinedTo (smallestLot ds a) (smallestLot ds b)) (eqb-true _ _ e)
       ∙ sym (same-class ds a b v (h .1)))
 
-  pub marked-kept : All Small ds → (u v : ℕ) → SmallPair u v → markedApart ds u v ≡ true → markedApart (same a b ∷ ds) u v ≡ true
+  pub marked-stays : All Small ds → (u v : ℕ) → SmallPair u v → markedApart ds u v ≡ true → markedApart (same a b ∷ ds) u v ≡ true
   unfolding marked
-  marked-kept small u v h e =
+  marked-stays small u v h e =
       rw (same-class ds a b u (h .0), same-class ds a b v (h .1))
       (renamed-marked (classes ds) (classes (same a b ∷ ds)) (joinedTo (smallestLot ds a) (smallestLot ds b)) (same-class ds a b) ds small _ _ e)
 
@@ -103,8 +103,8 @@ module _ (ds : Decisions) (a b : ℕ) where
   pub same-closed : All Small ds → (u v : ℕ) → SmallPair u v → closed ds u v ≡ true → closed (same a b ∷ ds) u v ≡ true
   same-closed small u v h e =
       or-cases (share ds u v) (markedApart ds u v) e
-      (λ p. simp (share-kept u v h p))
-      (λ q. simp (marked-kept small u v h q, or-true))
+      (λ p. simp (share-stays u v h p))
+      (λ q. simp (marked-stays small u v h q, or-true))
 
   pub apart-closed : (u v : ℕ) → closed ds u v ≡ true → closed (apart a b ∷ ds) u v ≡ true
   unfolding classes marked

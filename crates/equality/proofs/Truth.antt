@@ -13,7 +13,7 @@ use Rattle.equality.specs.Node.{Decisions, classes, smallestLot, share, 
 use Rattle.equality.proofs.Tests.{or-cases}
 use Rattle.equality.proofs.Small.{Small}
 use Rattle.equality.proofs.Classes.{joinedTo, same-class, min-either}
-use Rattle.equality.proofs.Steps.{closed, share-kept, marked-kept}
+use Rattle.equality.proofs.Steps.{closed, share-stays, marked-stays}
 
 -- ---- two classes that one join makes equal were equal before, or are the two that were joined
 
@@ -88,10 +88,10 @@ module _ (ds : Decisions) (small : All Small ds) (a b : ℕ) (open′ : closed d
 
   pub same-true : (t : Term) → Small t → value ds t ≡ isTrue → value (same a b ∷ ds) t ≡ isTrue
   unfolding value
-  same-true (same u v) h e = rw (share-kept ds a b u v h (shared-true (share ds u v) (markedApart ds u v) e))
+  same-true (same u v) h e = rw (share-stays ds a b u v h (shared-true (share ds u v) (markedApart ds u v) e))
   same-true (apart u v) h e =
       let both = true-share (share ds u v) (markedApart ds u v) e in
-      simp (still-apart u v h (both .0) (both .1), marked-kept ds a b small u v h (both .1))
+      simp (still-apart u v h (both .0) (both .1), marked-stays ds a b small u v h (both .1))
 
   pub apart-true : (t : Term) → value ds t ≡ isTrue → value (apart a b ∷ ds) t ≡ isTrue
   unfolding value classes marked

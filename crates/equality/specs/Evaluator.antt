@@ -9,7 +9,7 @@ use Rattle.sheet.specs.Format.{lotCount}
 use Rattle.sheet.specs.Conditions.{Term, conditions}
 use Rattle.sheet.specs.Checks.{refusesIf, firstRefusal, sheetChecks}
 use Rattle.sheet.specs.Answers.{Answer, answerOf}
-use Rattle.equality.specs.Meaning.{meetsCondition}
+use Rattle.equality.specs.Meaning.{Meets, meetsCondition}
 
 -- "grouping (search, judge) | 8 | shorter than n | n"
 unfoldable pub check8 : List ℕ → List ℕ → Verdict
@@ -22,6 +22,10 @@ groupingVerdict s grouping = firstRefusal (sheetChecks s ++ check8 s grouping �
 -- "values 0 to 255, lot i having byte i − 1 as its number": a lot's number in a grouping.
 abbrev pub numberIn : List ℕ → ℕ → ℕ
 numberIn grouping lot = getD grouping (lot - 1) 0
+
+-- "A grouping meets a sheet when the numbers that the judge reads from it do."
+abbrev pub GroupingMeets : List ℕ → List ℕ → Type 0
+GroupingMeets grouping s = Meets (numberIn grouping) s
 
 -- "0 if all conditions are met, else the lowest condition that isn't": of the conditions from c on.
 unfoldable pub lowestUnmet : (ℕ → ℕ) → ℕ → List (List Term) → ℕ

@@ -32,7 +32,7 @@ conditionsD =
 abbrev pub conditionsReversed : List (List Term)
 conditionsReversed = (same 2 1 ∷ []) ∷ (apart 1 2 ∷ []) ∷ []
 
--- Each with the tree that is visited and the grouping of three lots at its met node, where it has one.
+-- Each with the tree that is visited.
 pub trees :
     map searchTree (conditionsA ∷ conditionsC ∷ conditionsD ∷ conditionsReversed ∷ [])
     ≡ twoBranches 1 2 (twoBranches 2 3 (groundLeaf 3) (groundLeaf 2)) (groundLeaf 1)
@@ -43,6 +43,7 @@ pub trees :
 unfolding merged classes marked value taken groundOrSplit node isMet afterSame visitNode visit sameTerms allSameTerms searchTree anyTerm someTerm countUp
 trees = refl
 
+-- The grouping at the met node of C.
 pub groupingC : groupingBytes 3 (metDecisions (searchTree conditionsC)) ≡ 1 ∷ 2 ∷ 1 ∷ []
 unfolding merged classes marked value taken groundOrSplit node isMet afterSame visitNode visit sameTerms allSameTerms searchTree anyTerm someTerm countUp metDecisions groupingBytes
 groupingC = refl

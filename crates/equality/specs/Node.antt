@@ -26,16 +26,20 @@ Respects f (d ∷ ds) = Holds f d × Respects f ds
 unfoldable pub merged : ℕ → ℕ → List ℕ → List ℕ
 merged x y classes = map (λ z. cond (eqb z x || eqb z y) (min x y) z) classes
 
+-- The class of a lot.
+abbrev pub classOf : List ℕ → ℕ → ℕ
+classOf cs lot = getD cs lot 0
+
 -- "The same pairs split the lots into consignments; each is known by its smallest lot.": the entry at a lot's number is its class.
 -- There is an entry for each number that a lot can have, 0 included; a sheet's own lots are the first.
 unfoldable pub classes : Decisions → List ℕ
 classes [] = countUp (suc mostLots) 0
-classes (same a b ∷ ds) = merged (getD (classes ds) a 0) (getD (classes ds) b 0) (classes ds)
+classes (same a b ∷ ds) = merged (classOf (classes ds) a) (classOf (classes ds) b) (classes ds)
 classes (apart a b ∷ ds) = classes ds
 
 -- The smallest lot of a lot's class.
 abbrev pub smallestLot : Decisions → ℕ → ℕ
-smallestLot ds lot = getD (classes ds) lot 0
+smallestLot ds lot = classOf (classes ds) lot
 
 -- The lots share a class.
 abbrev pub share : Decisions → ℕ → ℕ → Bool
@@ -45,7 +49,7 @@ share ds a b = eqb (smallestLot ds a) (smallestLot ds b)
 
 -- Of two lots, one is in class x and one in class y, by the classes given.
 abbrev pub between : List ℕ → ℕ → ℕ → ℕ → ℕ → Bool
-between cs x y a b = eqb (getD cs a 0) x && eqb (getD cs b 0) y || eqb (getD cs a 0) y && eqb (getD cs b 0) x
+between cs x y a b = eqb (classOf cs a) x && eqb (classOf cs b) y || eqb (classOf cs a) y && eqb (classOf cs b) x
 
 -- "Two consignments are marked apart when some pair set apart has one lot in each.": the classes numbered x and y.
 unfoldable pub marked : List ℕ → Decisions → ℕ → ℕ → Bool
@@ -83,7 +87,7 @@ pub data Taken : Type 0 where
   noCondition : Taken
   takes : ℕ → List Term → Taken
 
--- Condition c, of these terms, is passed over: it has a true term or an open "apart" term.
+-- A condition of these terms is passed over: it has a true term or an open "apart" term.
 abbrev pub passedOver : Decisions → List Term → Bool
 passedOver ds ts = someTerm (λ t. trueOrOpenApart t (value ds t)) ts
 

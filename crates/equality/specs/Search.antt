@@ -21,7 +21,10 @@ isMet (groundLeaf c) = false
 isMet (oneBranch a b t) = isMet t
 isMet (twoBranches a b t u) = isMet u
 
--- "the pair set same is tried first, then, if nothing was met there, the pair set apart": after the visit of the same branch, t.
+-- `visitBranch` is the visit of a branch from its decisions on: the recursive call, which has to be on one fuel.
+
+-- "the pair set same is tried first, then, if nothing was met there, the pair set apart": after the visit of the same branch (document 01: the
+-- equal branch), t, by whether that has a met node. The other is the apart branch (the different branch).
 unfoldable pub afterSame : (Decisions → Tree) → Decisions → ℕ → ℕ → Tree → Bool → Tree
 afterSame visitBranch ds a b t true = oneBranch a b t
 afterSame visitBranch ds a b t false = twoBranches a b t (visitBranch (apart a b ∷ ds))
@@ -77,7 +80,7 @@ metDecisions (twoBranches a b t u) = metDecisions u
 unfoldable pub groupingBytes : ℕ → Decisions → List ℕ
 groupingBytes n ds = take n (drop 1 (classes ds))
 
--- P: the product over the conditions of one plus the number of their "same" terms.
+-- P, by which the nodes are bounded: the product over the conditions of one plus the number of their "same" terms.
 unfoldable pub branching : List (List Term) → ℕ
 branching [] = 1
 branching (ts ∷ tss) = suc (sameTerms ts) * branching tss

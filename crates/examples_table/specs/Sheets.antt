@@ -1,10 +1,9 @@
--- The starred sheets of document 01, "Sheets to try", each with the buffers lent and what they hold afterwards. Every buffer is longer than
--- needed and filled with 170, so that what must stay untouched is seen to.
+-- The starred sheets of document 01, "Sheets to try", each with the buffers lent and what they hold afterwards. Every buffer is
+-- filled with 170 and longer than needed, but for the store of the row that is to be full, so that what must stay untouched is seen to.
 use Prim.Native.Nat.{ℕ}
 use mathlib.Core.List.{List, [], _∷_}
 use lib.ListN.{replicate}
 use Rattle.sheet.specs.Answers.{Answer, refusal}
-use Rattle.store.specs.Outcome.{metAnswer, cannotAnswer}
 
 -- The sheet's bytes, grouping and store as lent; the answer, grouping and store afterwards.
 pub record Row : Type 0 where
@@ -14,6 +13,13 @@ pub record Row : Type 0 where
   pub answer : Answer
   pub groupingAfter : List ℕ
   pub storeAfter : List ℕ
+
+-- Met and cannot, with the count of records.
+abbrev pub metWith : ℕ → Answer
+metWith count = record { check = 0; first = 1; second = count; third = 0 }
+
+abbrev pub cannotWith : ℕ → Answer
+cannotWith count = record { check = 0; first = 2; second = count; third = 0 }
 
 -- ---- the sheets: header, heads, then a record a line
 
@@ -88,7 +94,7 @@ rowA =
       sheet = sheetA;
       grouping = replicate 5 170;
       store = replicate 51 170;
-      answer = cannotAnswer 5;
+      answer = cannotWith 5;
       groupingAfter = 170 ∷ 170 ∷ 170 ∷ 170 ∷ 170 ∷ [];
       storeAfter =
           1 ∷ 0 ∷ 1 ∷ 0 ∷ 2 ∷ 0 ∷ 5 ∷ 0 ∷
@@ -107,7 +113,7 @@ rowB =
       sheet = sheetB;
       grouping = replicate 5 170;
       store = replicate 19 170;
-      answer = metAnswer 1;
+      answer = metWith 1;
       groupingAfter = 1 ∷ 2 ∷ 3 ∷ 170 ∷ 170 ∷ [];
       storeAfter =
           3 ∷ 0 ∷ 0 ∷ 0 ∷ 0 ∷ 0 ∷ 0 ∷ 0 ∷
@@ -122,7 +128,7 @@ rowC =
       sheet = sheetC;
       grouping = replicate 5 170;
       store = replicate 43 170;
-      answer = metAnswer 4;
+      answer = metWith 4;
       groupingAfter = 1 ∷ 2 ∷ 1 ∷ 170 ∷ 170 ∷ [];
       storeAfter =
           1 ∷ 0 ∷ 1 ∷ 0 ∷ 2 ∷ 0 ∷ 3 ∷ 0 ∷
@@ -156,7 +162,7 @@ rowD =
       sheet = sheetD;
       grouping = replicate 5 170;
       store = replicate 67 170;
-      answer = cannotAnswer 7;
+      answer = cannotWith 7;
       groupingAfter = 170 ∷ 170 ∷ 170 ∷ 170 ∷ 170 ∷ [];
       storeAfter =
           1 ∷ 0 ∷ 1 ∷ 0 ∷ 2 ∷ 0 ∷ 5 ∷ 0 ∷
@@ -177,7 +183,7 @@ rowEmpty =
       sheet = sheetEmpty;
       grouping = replicate 2 170;
       store = replicate 19 170;
-      answer = metAnswer 1;
+      answer = metWith 1;
       groupingAfter = 170 ∷ 170 ∷ [];
       storeAfter =
           3 ∷ 0 ∷ 0 ∷ 0 ∷ 0 ∷ 0 ∷ 0 ∷ 0 ∷
@@ -192,7 +198,7 @@ rowNoTerm =
       sheet = sheetNoTerm;
       grouping = replicate 2 170;
       store = replicate 19 170;
-      answer = cannotAnswer 1;
+      answer = cannotWith 1;
       groupingAfter = 170 ∷ 170 ∷ [];
       storeAfter =
           2 ∷ 0 ∷ 1 ∷ 0 ∷ 0 ∷ 0 ∷ 0 ∷ 0 ∷
@@ -207,7 +213,7 @@ rowSameSame =
       sheet = sheetSameSame;
       grouping = replicate 3 170;
       store = replicate 19 170;
-      answer = metAnswer 1;
+      answer = metWith 1;
       groupingAfter = 1 ∷ 170 ∷ 170 ∷ [];
       storeAfter =
           3 ∷ 0 ∷ 0 ∷ 0 ∷ 0 ∷ 0 ∷ 0 ∷ 0 ∷
@@ -222,7 +228,7 @@ rowApartSame =
       sheet = sheetApartSame;
       grouping = replicate 3 170;
       store = replicate 19 170;
-      answer = cannotAnswer 1;
+      answer = cannotWith 1;
       groupingAfter = 170 ∷ 170 ∷ 170 ∷ [];
       storeAfter =
           2 ∷ 0 ∷ 1 ∷ 0 ∷ 0 ∷ 0 ∷ 0 ∷ 0 ∷

@@ -1,6 +1,6 @@
 -- The starred sheets, proved in one go: from bytes to bytes, by computation.
 use Prim.Native.Nat.{ℕ, zero, suc, _*_}
-use mathlib.Core.List.{List, [], _∷_, map}
+use mathlib.Core.List.{List, map}
 use mathlib.Core.Path.{_≡_, refl}
 use lib.ListN.{take}
 use Rattle.sheet.specs.Bytes.{number, twoBytes}
@@ -13,45 +13,45 @@ use Rattle.equality.specs.Node.{merged, classes, marked, value, taken, groundOr
 use Rattle.equality.specs.Search.{isMet, afterSame, visitNode, visit, sameTerms, allSameTerms, searchTree, nodeCount, metDecisions, groupingBytes}
 use Rattle.equality.specs.Evaluator.{check8, groupingVerdict, lowestUnmet, evaluateAnswer}
 use Rattle.store.specs.Records.{recordLength, records, encode, ofKind, decode, recordsOf, encodeAll}
-use Rattle.store.specs.Outcome.{Outcome, searchOutcome}
-use Rattle.refutation.specs.Walk.{groundFails, nearest, walkFrom, check10, walkVerdict, listVerdict, checkAnswer}
+use Rattle.store.specs.Outcome.{Outcome, resultOf, searchOutcome}
+use Rattle.refutation.specs.Refutation.{groundFails, nearest, walkFrom, check10, walkVerdict, listVerdict, checkAnswer}
 use Rattle.text.specs.Lines.{digits, decimal, line}
-use Rattle.text.specs.Program.{headerLine, recordLine, recordLines, lastLine, refusedLine, searchText, sheetText, printed}
+use Rattle.text.specs.Program.{headerLine, recordLine, recordLines, refusedLine, metLine, cannotLine, resultText, printed}
 use Rattle.examples_table.specs.Sheets.{Row, starredRows, printedC, sheetA, sheetB, sheetC, sheetD, sheetEmpty, sheetNoTerm, sheetSameSame, sheetApartSame, rowA, rowB, rowC, rowFull, rowD, rowEmpty, rowNoTerm, rowSameSame, rowApartSame}
 
 -- A row's outcome, and what the other services say of it: where it is met, the evaluator of the grouping as it is left; where it cannot be met, the
 -- checker of the records written; where it is refused, the refusal.
 pub record Shown : Type 0 where
   pub outcome : Outcome
-  pub judged : Answer
+  pub confirmed : Answer
 
 abbrev pub passed : Answer
 passed = record { check = 0; first = 0; second = 0; third = 0 }
 
-abbrev pub judgedBy : List ℕ → Outcome → ℕ → ℕ → Answer
-judgedBy s outcome zero zero = outcome .answer
-judgedBy s outcome zero (suc zero) = evaluateAnswer s (outcome .grouping)
-judgedBy s outcome zero (suc (suc other)) = checkAnswer s (take (recordLength * outcome .answer .second) (outcome .store))
-judgedBy s outcome (suc check) first = outcome .answer
+abbrev pub confirmedBy : List ℕ → Outcome → ℕ → ℕ → Answer
+confirmedBy s outcome zero zero = outcome .answer
+confirmedBy s outcome zero (suc zero) = evaluateAnswer s (outcome .grouping)
+confirmedBy s outcome zero (suc (suc other)) = checkAnswer s (take (recordLength * outcome .answer .second) (outcome .store))
+confirmedBy s outcome (suc check) first = outcome .answer
 
 abbrev pub computed : Row → Shown
 computed row =
     let outcome = searchOutcome (row .sheet) (row .grouping) (row .store) in
-    record { outcome = outcome; judged = judgedBy (row .sheet) outcome (outcome .answer .check) (outcome .answer .first) }
+    record { outcome = outcome; confirmed = confirmedBy (row .sheet) outcome (outcome .answer .check) (outcome .answer .first) }
 
-abbrev pub judgedRight : Answer → ℕ → Answer
-judgedRight answer zero = passed
-judgedRight answer (suc check) = answer
+abbrev pub confirmedAs : Answer → ℕ → Answer
+confirmedAs answer zero = passed
+confirmedAs answer (suc check) = answer
 
 abbrev pub expected : Row → Shown
 expected row =
     record {
       outcome = record { answer = row .answer; grouping = row .groupingAfter; store = row .storeAfter };
-      judged = judgedRight (row .answer) (row .answer .check);
+      confirmed = confirmedAs (row .answer) (row .answer .check);
     }
 
 -- Every starred sheet has the outcome that document 01 gives, down to the last byte of both buffers; its grouping evaluates to 0, or its records
 -- pass the checker; and sheet C prints what document 01 shows.
 pub starred : (map computed starredRows ≡ map expected starredRows) × (printed sheetC ≡ printedC)
-unfolding starredRows rowA rowB rowC rowFull rowD rowEmpty rowNoTerm rowSameSame rowApartSame printedC sheetA sheetB sheetC sheetD sheetEmpty sheetNoTerm sheetSameSame sheetApartSame number twoBytes headAt signAt spareAt firstLotAt secondLotAt nextAt firstRefusal lowestRefusal check1 check2 check3 check4 wellFormed check5 member walkChain walkChains walked check6 check7 sheetChecks sheetVerdict chain recordsFrom termsFrom countUp conditions anyTerm someTerm merged classes marked value taken groundOrSplit node isMet afterSame visitNode visit sameTerms allSameTerms searchTree nodeCount metDecisions groupingBytes check8 groupingVerdict lowestUnmet evaluateAnswer records encode ofKind decode recordsOf encodeAll searchOutcome groundFails nearest walkFrom check10 walkVerdict listVerdict checkAnswer digits decimal line headerLine recordLine recordLines lastLine refusedLine searchText sheetText printed
+unfolding starredRows rowA rowB rowC rowFull rowD rowEmpty rowNoTerm rowSameSame rowApartSame printedC sheetA sheetB sheetC sheetD sheetEmpty sheetNoTerm sheetSameSame sheetApartSame number twoBytes headAt signAt spareAt firstLotAt secondLotAt nextAt firstRefusal lowestRefusal check1 check2 check3 check4 wellFormed check5 member walkChain walkChains walked check6 check7 sheetChecks sheetVerdict chain recordsFrom termsFrom countUp conditions anyTerm someTerm merged classes marked value taken groundOrSplit node isMet afterSame visitNode visit sameTerms allSameTerms searchTree nodeCount metDecisions groupingBytes check8 groupingVerdict lowestUnmet evaluateAnswer records encode ofKind decode recordsOf encodeAll resultOf searchOutcome groundFails nearest walkFrom check10 walkVerdict listVerdict checkAnswer digits decimal line headerLine recordLine recordLines refusedLine metLine cannotLine resultText printed
 starred = (refl, refl)

@@ -1,6 +1,6 @@
 -- What the walk says of lists over document 01's sheet A, by computation: each of checks 10 to 15, with its place.
 use Prim.Native.Nat.{ℕ, zero, suc}
-use mathlib.Core.List.{List, [], _∷_, _++_, map}
+use mathlib.Core.List.{List, [], _∷_, _++_}
 use mathlib.Core.Path.{_≡_, refl}
 use lib.ListN.{take, set}
 use Rattle.sheet.specs.declared.Verdict.{Verdict}
@@ -12,7 +12,7 @@ use Rattle.sheet.specs.Conditions.{chain, recordsFrom, termsFrom, countUp, cond
 use Rattle.equality.specs.Meaning.{anyTerm, someTerm}
 use Rattle.equality.specs.Node.{merged, classes, marked, value}
 use Rattle.store.specs.Records.{NodeRecord, splitRecord, groundRecord, metRecord, encode, encodeAll, ofKind, decode, recordsOf}
-use Rattle.refutation.specs.Walk.{groundFails, nearest, walkFrom, check10, walkVerdict, listVerdict}
+use Rattle.refutation.specs.Refutation.{groundFails, nearest, walkFrom, check10, walkVerdict, listVerdict}
 
 -- A: same 1 2; same 2 3; apart 1 3.
 abbrev pub sheetA : List ℕ
@@ -31,7 +31,7 @@ refutationA = splitRecord 1 2 5 ∷ splitRecord 2 3 4 ∷ groundRecord 3 ∷ gro
 abbrev pub says : List ℕ → Verdict
 says list = listVerdict sheetA list
 
--- The verdict on the first byte, or another, of the refutation changed.
+-- The verdict on the refutation with one byte changed, at a place counted from 0.
 abbrev pub changed : ℕ → ℕ → Verdict
 changed place byte = says (set (encodeAll refutationA) place byte)
 

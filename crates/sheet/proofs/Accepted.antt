@@ -10,8 +10,9 @@ use lib.ListN.{length}
 use borrow.Author.Tests.{eqb-true, leb-true, ltb-false, not-false}
 use Rattle.sheet.specs.declared.Header.{Header}
 use Rattle.sheet.specs.declared.Verdict.the-variants.{Passes}
-use Rattle.sheet.specs.Format.{lowestLot, headerLength, lotCount, conditionCount, recordCount, headAt, signAt, spareAt, firstLotAt, secondLotAt, nextAt, headerAt, HasHeader, HasRecord}
-use Rattle.sheet.specs.Checks.{check2, check3, check4, check5, check6, check7, lotInRange, wellFormed, Walk, reached, twice, member, walked, walkVerdict, reachedBy, sheetChecks, sheetVerdict, Accepted}
+use Rattle.sheet.specs.Format.{lowestLot, headerLength, lotCount, conditionCount, recordCount, headAt, signAt, spareAt, firstLotAt, secondLotAt, nextAt}
+use Rattle.sheet.specs.Inner.{headerAt, HasHeader, HasRecord}
+use Rattle.sheet.specs.Checks.{check2, check3, check4, check5, check6, check7, lotInRange, wellFormed, Walk, reached, twice, member, walked, chainsVerdict, reachedBy, sheetChecks, sheetVerdict, Accepted}
 use Rattle.sheet.proofs.Verdicts.{orElse-passes, firstRefusal-passes, refusesIf-passes, lowest-passes}
 
 -- A lot that a term may name, of so many lots.
@@ -51,7 +52,7 @@ either : (a b : Bool) → (a || b) ≡ true → (a ≡ true) ⊎ (b ≡ true)
 either true b e = inl refl
 either false b e = inr e
 
-in-lots : (s : List ℕ) (lot : ℕ) → lotInRange s lot ≡ true → InLots (lotCount s) lot
+in-lots : (s : List ℕ) (lot : ℕ) → lotInRange (lotCount s) lot ≡ true → InLots (lotCount s) lot
 in-lots s lot e =
     let (low, high) = and-eq-true-iff (leb lowestLot lot) (leb lot (lotCount s)) .0 e in
     record { low = leb-true _ _ low; high = leb-true _ _ high }
@@ -71,7 +72,7 @@ well-formed s r e =
       next = leb-true _ _ next;
     }
 
-walk-passes : (w : Walk) → walkVerdict w ≡ Passes → (seen : List ℕ) × (w ≡ reached seen)
+walk-passes : (w : Walk) → chainsVerdict w ≡ Passes → (seen : List ℕ) × (w ≡ reached seen)
 walk-passes (reached seen) e = (seen, refl)
 walk-passes (twice r) e = ([], cc)
 

@@ -8,7 +8,8 @@ use lib.ListN.{length}
 use Rattle.sheet.specs.declared.Header.{Header}
 use Rattle.sheet.specs.declared.Verdict.{Verdict}
 use Rattle.sheet.specs.declared.Verdict.the-variants.{Passes}
-use Rattle.sheet.specs.Format.{HasHeader, headerAt, headerLength, conditionCount, recordCount, mostLots, mostConditions, mostRecords, sheetLength}
+use Rattle.sheet.specs.Format.{headerLength, conditionCount, recordCount, mostLots, mostConditions, mostRecords, sheetLength}
+use Rattle.sheet.specs.Inner.{HasHeader, headerAt}
 use Rattle.sheet.specs.Checks.{orElse, refusesIf, firstRefusal, headerChecks, check1, check2, check3}
 
 -- The tests of a header h and a length.

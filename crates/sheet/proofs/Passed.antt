@@ -10,9 +10,10 @@ use lib.ListN.{length}
 use Rattle.sheet.specs.declared.Header.{Header}
 use Rattle.sheet.specs.declared.Verdict.{Verdict}
 use Rattle.sheet.specs.declared.Verdict.the-variants.{Passes, Refuses}
-use Rattle.sheet.specs.Format.{HasHeader, headerAt, headerLength, mostLots, mostConditions, mostRecords, sheetLength, lotCount, conditionCount, recordCount, headAt, nextAt}
+use Rattle.sheet.specs.Format.{headerLength, mostLots, mostConditions, mostRecords, sheetLength, lotCount, conditionCount, recordCount, headAt, nextAt}
+use Rattle.sheet.specs.Inner.{HasHeader, headerAt}
 use Rattle.sheet.specs.Checks.{orElse, refusesIf, firstRefusal, lowestRefusal, headerChecks, check1, check2, check3, check4, check5, check6, check7, wellFormed, sheetChecks, sheetVerdict}
-use Rattle.sheet.specs.Marks.{Walkable}
+use Rattle.sheet.specs.Inner.{Walkable}
 
 -- ---- verdicts
 

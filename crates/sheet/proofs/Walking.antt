@@ -10,8 +10,8 @@ use lib.ListN.{length, getD, set}
 use Rattle.sheet.specs.declared.Verdict.{Verdict}
 use Rattle.sheet.specs.declared.Verdict.the-variants.{Passes, Refuses}
 use Rattle.sheet.specs.Format.{conditionCount, recordCount, headAt, nextAt}
-use Rattle.sheet.specs.Checks.{Walk, reached, twice, member, walkChain, walkChains, walked, walkVerdict, reachedBy, orElse, lowestRefusal, check6, check7}
-use Rattle.sheet.specs.Marks.{Marks, marked, oneChain, WalkedTo, unmarkedVerdict}
+use Rattle.sheet.specs.Checks.{Walk, reached, twice, member, walkChain, walkChains, walked, chainsVerdict, reachedBy, orElse, lowestRefusal, check6, check7}
+use Rattle.sheet.specs.Inner.{Marks, isMarked, oneChain, WalkedTo, unmarkedVerdict}
 use Rattle.sheet.proofs.Loops.{same-refusal}
 use Rattle.sheet.proofs.Marks.{unmarked, unmarked-le, unmarked-falls, mark}
 
@@ -165,7 +165,7 @@ module _ (s : List ℕ) (v : Verdict) where
   unfolding check6
   walk-refused {check} {place} told marks = go (walked s) refl
     where
-      go : (w : Walk) → walked s ≡ w → WalkedTo w v marks → v ≡ orElse (walkVerdict (walked s)) (check7 s)
+      go : (w : Walk) → walked s ≡ w → WalkedTo w v marks → v ≡ orElse (chainsVerdict (walked s)) (check7 s)
       go (reached seen) e (same, stand) = let z : _≡_ {A = ℕ} 0 1 = cc in absurd (omega arith)
       go (twice r) e same = rw e same
 
@@ -175,9 +175,9 @@ module _ (s : List ℕ) (v : Verdict) where
   walk-passed told marks room = go (walked s) refl
     where
       go : (w : Walk) → walked s ≡ w → WalkedTo w v marks
-          → unmarkedVerdict marks ≡ orElse (walkVerdict (walked s)) (lowestRefusal 7 (λ r. not (member r (reachedBy (walked s)))) (recordCount s) 1)
+          → unmarkedVerdict marks ≡ orElse (chainsVerdict (walked s)) (lowestRefusal 7 (λ r. not (member r (reachedBy (walked s)))) (recordCount s) 1)
       go (reached seen) e same =
           rw (e, room)
-          (same-refusal 7 (λ r. not (marked marks r)) (λ r. not (member r seen)) (recordCount s) 1
+          (same-refusal 7 (λ r. not (isMarked marks r)) (λ r. not (member r seen)) (recordCount s) 1
           (λ r low high. ap not (same .1 .stand r low (omega arith))))
       go (twice r) e same = let z : _≡_ {A = ℕ} 0 1 = cc in absurd (omega arith)

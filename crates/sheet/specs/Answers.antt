@@ -1,4 +1,4 @@
--- An answer in document 01's numbers.
+-- An answer as numbers: document 01's number of the check that refuses, and its values.
 use Prim.Native.Nat.{ℕ}
 use mathlib.Core.List.{List}
 use Rattle.sheet.specs.declared.Verdict.{Verdict}
@@ -28,7 +28,7 @@ unfoldable pub readAnswer : List ℕ → Answer
 readAnswer s =
     answerOf (sheetVerdict s) (record { check = 0; first = lotCount s; second = conditionCount s; third = recordCount s })
 
--- Document 01's numbers of the reader's cases.
+-- The same of each case of the reader's answer.
 abbrev pub readingAnswer : Reading → Answer
 readingAnswer (Accepted n m k) = record { check = 0; first = n; second = m; third = k }
 readingAnswer (Refused check place) = refusal check place

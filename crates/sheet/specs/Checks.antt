@@ -1,7 +1,7 @@
 -- Checks 1 to 7, in the order of document 01's table, "Where each check sits".
-use Prim.Native.Nat.{ℕ, zero, suc, _+_, _*_}
+use Prim.Native.Nat.{ℕ, zero, suc}
 use mathlib.Core.Bool.{Bool, true, false, cond, not, _&&_, _||_}
-use mathlib.Core.List.{List, [], _∷_}
+use mathlib.Core.List.{List, [], _∷_, _++_}
 use mathlib.Core.Path.{_≡_}
 use lib.Dec.{leb, ltb, eqb}
 use lib.ListN.{length}
@@ -55,24 +55,24 @@ check3 s = refusesIf (not (eqb (length s) (sheetLength (conditionCount s) (recor
 unfoldable pub check4 : List ℕ → Verdict
 check4 s = lowestRefusal 4 (λ c. ltb (recordCount s) (headAt s c)) (conditionCount s) 1
 
--- A lot that a term may name.
-abbrev pub lotInRange : List ℕ → ℕ → Bool
-lotInRange s lot = leb lowestLot lot && leb lot (lotCount s)
+-- A lot that a term may name, of n lots.
+abbrev pub lotInRange : ℕ → ℕ → Bool
+lotInRange n lot = leb lowestLot lot && leb lot n
 
 -- Sign, spare, both lots and next of record r are in range.
 unfoldable pub wellFormed : List ℕ → ℕ → Bool
 wellFormed s r =
     (eqb (signAt s r) 1 || eqb (signAt s r) 2)
     && (eqb (spareAt s r) 0
-    && (lotInRange s (firstLotAt s r)
-    && (lotInRange s (secondLotAt s r)
+    && (lotInRange (lotCount s) (firstLotAt s r)
+    && (lotInRange (lotCount s) (secondLotAt s r)
     && leb (nextAt s r) (recordCount s))))
 
 -- "records, rising | 5 | sign, spare or lot out of range, next above k | record"
 unfoldable pub check5 : List ℕ → Verdict
 check5 s = lowestRefusal 5 (λ r. not (wellFormed s r)) (recordCount s) 1
 
--- ---- chains
+-- ---- chains: "Each record lies on exactly one chain, once." Check 6 refuses a record that lies there twice, check 7 one that lies on none.
 
 -- A walk along chains: the records reached so far, the latest first; or the record that was reached a second time.
 pub data Walk : Type 0 where
@@ -102,13 +102,13 @@ walkChains s (suc count) c (reached seen) = walkChains s count (suc c) (walkChai
 unfoldable pub walked : List ℕ → Walk
 walked s = walkChains s (conditionCount s) 1 (reached [])
 
-abbrev pub walkVerdict : Walk → Verdict
-walkVerdict (reached seen) = Passes
-walkVerdict (twice r) = Refuses 6 r
+abbrev pub chainsVerdict : Walk → Verdict
+chainsVerdict (reached seen) = Passes
+chainsVerdict (twice r) = Refuses 6 r
 
 -- "chains, by condition | 6 | a record reached a second time | record"
 unfoldable pub check6 : List ℕ → Verdict
-check6 s = walkVerdict (walked s)
+check6 s = chainsVerdict (walked s)
 
 abbrev pub reachedBy : Walk → List ℕ
 reachedBy (reached seen) = seen
@@ -126,11 +126,11 @@ headerChecks s = check1 s ∷ check2 s ∷ check3 s ∷ []
 
 -- "the table's checks on its own bytes, here 1 to 7"
 unfoldable pub sheetChecks : List ℕ → List Verdict
-sheetChecks s = check1 s ∷ check2 s ∷ check3 s ∷ check4 s ∷ check5 s ∷ check6 s ∷ check7 s ∷ []
+sheetChecks s = headerChecks s ++ check4 s ∷ check5 s ∷ check6 s ∷ check7 s ∷ []
 
 unfoldable pub sheetVerdict : List ℕ → Verdict
 sheetVerdict s = firstRefusal (sheetChecks s)
 
--- "A sheet is accepted when none of the table's checks on its own bytes refuses it."
+-- "A sheet is accepted when none of the table's checks on its own bytes, here 1 to 7, refuses it"
 abbrev pub Accepted : List ℕ → Type 0
 Accepted s = sheetVerdict s ≡ Passes

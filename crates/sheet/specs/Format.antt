@@ -1,10 +1,7 @@
 -- Where things stand in a sheet's bytes (document 01, "The sheet").
-use Prim.Native.Nat.{ℕ, _+_, _*_, _-_, _≤_}
+use Prim.Native.Nat.{ℕ, _+_, _*_, _-_}
 use mathlib.Core.List.{List}
-use mathlib.Core.Path.{_≡_}
-use lib.ListN.{length, getD}
-use Rattle.sheet.specs.declared.Header.{Header}
-use Rattle.sheet.specs.declared.Term.{Term}
+use lib.ListN.{getD}
 use Rattle.sheet.specs.Bytes.{number}
 
 -- "lots n (at most 128), conditions m (at most 256), term records k (at most 1,024)"
@@ -21,7 +18,7 @@ mostRecords = 1024
 abbrev pub lowestLot : ℕ
 lowestLot = 1
 
--- "Bytes 0 to 5: lots n, conditions m, term records k, two bytes each."
+-- "Bytes 0 to 5: lots n .., conditions m .., term records k .., two bytes each. All may be 0."
 abbrev pub headerLength : ℕ
 headerLength = 6
 
@@ -61,33 +58,3 @@ secondLotAt s r = number s (recordPlace (conditionCount s) r + 4)
 
 unfoldable pub nextAt : List ℕ → ℕ → ℕ
 nextAt s r = number s (recordPlace (conditionCount s) r + 6)
-
--- ---- the same, as the code's types have it
-
--- The header's counts.
-abbrev pub headerAt : List ℕ → Header
-headerAt s = record { lots = lotCount s; conditions = conditionCount s; records = recordCount s }
-
--- The term record r, without its spare byte.
-abbrev pub termRecordAt : List ℕ → ℕ → Term
-termRecordAt s r =
-    record {
-      sign = signAt s r;
-      a = record { 0 = firstLotAt s r };
-      b = record { 0 = secondLotAt s r };
-      next = record { 0 = nextAt s r };
-    }
-
--- Record r stands whole in the bytes s, whose header counts m conditions.
-pub record HasRecord (s : List ℕ) (m r : ℕ) : Type 0 where
-  pub counted : m ≡ conditionCount s
-  pub least : 1 ≤ r
-  pub whole : recordPlace m r + 8 ≤ length s
-
--- The bytes s have the header h, whose counts are within their limits, and the length that it gives: checks 1 to 3 have passed.
-pub record HasHeader (s : List ℕ) (h : Header) : Type 0 where
-  pub counts : h ≡ headerAt s
-  pub lots : lotCount s ≤ mostLots
-  pub conditions : conditionCount s ≤ mostConditions
-  pub records : recordCount s ≤ mostRecords
-  pub whole : length s ≡ sheetLength (conditionCount s) (recordCount s)

@@ -3,4 +3,4 @@ pub mod Format
 pub mod Checks
 pub mod Conditions
 pub mod Answers
-pub mod Marks
+pub mod Inner

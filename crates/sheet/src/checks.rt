@@ -1,12 +1,12 @@
 // Checks 1 to 5 and 7.
 ghost use mathlib.Core.Path.{_≡_};
-ghost use mathlib.Core.Bool.{_&&_, _||_};
+ghost use mathlib.Core.Bool.{_||_};
 ghost use Prim.Native.Nat.{_≤_};
-ghost use lib.Dec.{eqb, leb};
+ghost use lib.Dec.{eqb};
 ghost use lib.ListN.{length};
-ghost use Rattle.sheet.specs.Format.{HasHeader, HasRecord, headerAt, lowestLot, mostRecords};
-ghost use Rattle.sheet.specs.Checks.{firstRefusal, headerChecks, check4, check5, wellFormed};
-ghost use Rattle.sheet.specs.Marks.{unmarkedVerdict};
+ghost use Rattle.sheet.specs.Format.{mostRecords};
+ghost use Rattle.sheet.specs.Checks.{firstRefusal, headerChecks, check4, lotInRange, check5, wellFormed};
+ghost use Rattle.sheet.specs.Inner.{HasHeader, HasRecord, headerAt, unmarkedVerdict};
 use crate::Condition;
 use crate::Header;
 use crate::Lot;
@@ -100,7 +100,7 @@ fn sign_known(sign: u8) -> bool
 
 // A lot that a term may name.
 fn lot_in_range(h: Header, lot: Lot) -> bool
-    ensures { λ b. ⌜ b ≡ (leb lowestLot (lot .0) && leb (lot .0) (h .lots)) ⌝ }
+    ensures { λ b. ⌜ b ≡ lotInRange (h .lots) (lot .0) ⌝ }
 {
     1 <= lot.0 && lot.0 <= h.lots
 }

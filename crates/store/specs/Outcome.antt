@@ -14,57 +14,74 @@ use Rattle.equality.specs.Search.{Tree, searchTree, isMet, nodeCount, metDecisi
 use Rattle.equality.specs.Evaluator.{groupingVerdict}
 use Rattle.store.specs.Records.{records, encodeAll, recordLength, capacity}
 
-pub record Outcome : Type 0 where
-  pub answer : Answer
-  pub grouping : List ℕ
-  pub store : List ℕ
+-- What a search comes to, before any buffer is looked at.
+pub data Result : Type 0 where
+  -- Refused before the search: check and place.
+  refusedResult : ℕ → ℕ → Result
+  -- Store full, with S.
+  fullResult : ℕ → Result
+  metResult : Tree → Result
+  cannotResult : Tree → Result
+
+abbrev pub metOrCannot : Bool → Tree → Result
+metOrCannot true tree = metResult tree
+metOrCannot false tree = cannotResult tree
+
+-- "Store full: c would exceed S"
+abbrev pub fullOr : Bool → ℕ → Result → Result
+fullOr true capacity result = fullResult capacity
+fullOr false capacity result = result
+
+-- From the verdict of the checks before the search, S and the tree that is visited "without regard to any store".
+unfoldable pub resultOf : Verdict → ℕ → Tree → Result
+resultOf (Refuses check place) capacity tree = refusedResult check place
+resultOf Passes capacity tree = fullOr (ltb capacity (nodeCount tree)) capacity (metOrCannot (isMet tree) tree)
+
+-- ---- the answer
+
+-- "during the search | 9 | store full | S". "Met and cannot carry the count c of records": after 1 for met and 2 for cannot.
+abbrev pub resultAnswer : Result → Answer
+resultAnswer (refusedResult check place) = refusal check place
+resultAnswer (fullResult capacity) = refusal 9 capacity
+resultAnswer (metResult tree) = record { check = 0; first = 1; second = nodeCount tree; third = 0 }
+resultAnswer (cannotResult tree) = record { check = 0; first = 2; second = nodeCount tree; third = 0 }
+
+-- ---- the buffers
 
 -- A buffer whose first bytes are written, and whose others are untouched.
 abbrev pub written : List ℕ → List ℕ → List ℕ
 written bytes buffer = bytes ++ drop (length bytes) buffer
 
--- "Met and cannot carry the count c of records": 1 for met and 2 for cannot, then the count.
-abbrev pub metAnswer : ℕ → Answer
-metAnswer count = record { check = 0; first = 1; second = count; third = 0 }
+-- "the grouping only on met (its first n bytes)"
+abbrev pub groupingAfter : ℕ → Result → List ℕ → List ℕ
+groupingAfter n (refusedResult check place) grouping = grouping
+groupingAfter n (fullResult capacity) grouping = grouping
+groupingAfter n (metResult tree) grouping = written (groupingBytes n (metDecisions tree)) grouping
+groupingAfter n (cannotResult tree) grouping = grouping
 
-abbrev pub cannotAnswer : ℕ → Answer
-cannotAnswer count = record { check = 0; first = 2; second = count; third = 0 }
+-- "only the first 8c bytes are written"; store full: "then the first 8S bytes are zero, the rest untouched". "Only 9 writes anything."
+abbrev pub storeAfter : Result → List ℕ → List ℕ
+storeAfter (refusedResult check place) store = store
+storeAfter (fullResult capacity) store = written (replicate (recordLength * capacity) 0) store
+storeAfter (metResult tree) store = written (encodeAll (records 1 tree)) store
+storeAfter (cannotResult tree) store = written (encodeAll (records 1 tree)) store
 
--- "only the first 8c bytes are written, and the grouping only on met (its first n bytes)": by whether the tree has a met node.
-abbrev pub searchedTree : ℕ → Tree → List ℕ → List ℕ → Bool → Outcome
-searchedTree n tree grouping store true =
+-- ---- all of it
+
+pub record Outcome : Type 0 where
+  pub answer : Answer
+  pub grouping : List ℕ
+  pub store : List ℕ
+
+abbrev pub outcomeOf : ℕ → Result → List ℕ → List ℕ → Outcome
+outcomeOf n result grouping store =
     record {
-      answer = metAnswer (nodeCount tree);
-      grouping = written (groupingBytes n (metDecisions tree)) grouping;
-      store = written (encodeAll (records 1 tree)) store;
-    }
-searchedTree n tree grouping store false =
-    record {
-      answer = cannotAnswer (nodeCount tree);
-      grouping = grouping;
-      store = written (encodeAll (records 1 tree)) store;
+      answer = resultAnswer result;
+      grouping = groupingAfter n result grouping;
+      store = storeAfter result store;
     }
 
--- "Store full: c would exceed S; then the first 8S bytes are zero, the rest untouched, and the grouping unwritten.": by whether the
--- nodes are more than S. "during the search | 9 | store full | S"
-abbrev pub searchedFully : ℕ → Tree → List ℕ → List ℕ → Bool → Outcome
-searchedFully n tree grouping store true =
-    record {
-      answer = refusal 9 (capacity store);
-      grouping = grouping;
-      store = written (replicate (recordLength * capacity store) 0) store;
-    }
-searchedFully n tree grouping store false = searchedTree n tree grouping store (isMet tree)
-
--- "Checks run down the table. Only 9 writes anything.": after the checks before the search.
-abbrev pub searchedAfter : Verdict → Outcome → List ℕ → List ℕ → Outcome
-searchedAfter Passes outcome grouping store = outcome
-searchedAfter (Refuses check place) outcome grouping store =
-    record { answer = refusal check place; grouping = grouping; store = store }
-
--- The outcome of a search.
+-- The search's outcome.
 unfoldable pub searchOutcome : List ℕ → List ℕ → List ℕ → Outcome
 searchOutcome s grouping store =
-    let tree = searchTree (conditions s) in
-    let outcome = searchedFully (lotCount s) tree grouping store (ltb (capacity store) (nodeCount tree)) in
-    searchedAfter (groupingVerdict s grouping) outcome grouping store
+    outcomeOf (lotCount s) (resultOf (groupingVerdict s grouping) (capacity store) (searchTree (conditions s))) grouping store

@@ -1,7 +1,7 @@
 -- Node records: one per node visited, and their bytes (document 01, "The node store").
 use Prim.Native.Nat.{ℕ, zero, suc, _+_, _*_, _-_, _/_, min}
 use mathlib.Core.Bool.{Bool, cond, _&&_}
-use mathlib.Core.List.{List, [], _∷_, _++_, map, flatMap}
+use mathlib.Core.List.{List, [], _∷_, _++_, map}
 use lib.Dec.{eqb}
 use lib.ListN.{length, getD}
 use Rattle.sheet.specs.Bytes.{number, twoBytes}
@@ -18,6 +18,7 @@ pub data NodeRecord : Type 0 where
 
 -- ---- the records of a search
 
+-- (The same branch is document 01's equal branch, the apart branch its different branch.)
 -- "In the list a split is followed by everything under its equal branch, then everything under its different branch; next is the record
 -- where that second branch begins, zero if never visited.": the records of a tree whose first has the number `at`.
 unfoldable pub records : ℕ → Tree → List NodeRecord
@@ -37,6 +38,7 @@ recordLength = 8
 abbrev pub fields : ℕ → ℕ → ℕ → ℕ → List ℕ
 fields kind first second next = kind ∷ 0 ∷ twoBytes first ++ twoBytes second ++ twoBytes next
 
+-- Nothing writes `noRecord`; it has the bytes of kind 0 here so that every record has some.
 unfoldable pub encode : NodeRecord → List ℕ
 encode (splitRecord a b next) = fields 1 a b next
 encode (groundRecord c) = fields 2 c 0 0

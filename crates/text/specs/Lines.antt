@@ -1,11 +1,11 @@
 -- Lines of text: decimal numbers, words, and fields parted by one space (document 01, "The printing program").
 use Prim.Native.Nat.{ℕ, zero, suc, _+_, _/_, _%_}
-use mathlib.Core.Bool.{Bool, true, false}
+use mathlib.Core.Bool.{true, false}
 use mathlib.Core.List.{List, [], _∷_, _++_}
 use lib.Dec.{ltb}
 
--- "numbers in decimal": a number's digits in ASCII, 48 being '0'. A number has fewer digits than one more than itself, so `fuel` above
--- the number is enough, and never decides.
+-- "numbers in decimal": a number's digits in ASCII, 48 being '0'. A number has no more digits than one more
+-- than itself, so `fuel` above the number is enough, and never decides.
 unfoldable pub digits : ℕ → ℕ → List ℕ
 digits zero x = []
 digits (suc fuel) x = elim (ltb x 10) [ true ↦ (48 + x) ∷ [] | false ↦ digits fuel (x / 10) ++ (48 + x % 10) ∷ [] ]

@@ -4,7 +4,7 @@ use mathlib.Core.List.{List}
 use Prim.Native.Nat.{ℕ}
 use Rattle.sheet.specs.declared.Verdict.{Verdict}
 use Rattle.sheet.specs.declared.Verdict.the-variants.{Passes}
-use Rattle.sheet.specs.Format.{HasHeader}
+use Rattle.sheet.specs.Inner.{HasHeader}
 use Rattle.sheet.specs.Checks.{orElse, firstRefusal, headerChecks, check4, check5, check6, check7, sheetVerdict}
 use Rattle.sheet.proofs.Passed.{passed-on, refused-here, long-enough, has-header, in-order}
 use Rattle.sheet.proofs.first_refusal.Statement.{statement}

@@ -3,7 +3,7 @@ use borrow.Author.Tests.{lt-ltb, le-ltb, eq-eqb, ne-eqb}
 use mathlib.Core.Path.{refl, sym, _∙_}
 use mathlib.Core.List.{List}
 use Prim.Native.Nat.{ℕ}
-use Rattle.sheet.specs.Format.{headerAt}
+use Rattle.sheet.specs.Inner.{headerAt}
 use Rattle.sheet.proofs.Headers.{by-tests}
 use Rattle.sheet.proofs.checks.header.Statement.{statement}
 use Rattle.sheet.proofs.checks.header.Tie as tie

@@ -5,7 +5,7 @@ use mathlib.Core.Bool.{Bool, not}
 use mathlib.Core.List.{List}
 use Prim.Native.Nat.{ℕ, _+_, _-_}
 use lib.ListN.{length}
-use Rattle.sheet.specs.Marks.{marked, unmarkedVerdict}
+use Rattle.sheet.specs.Inner.{isMarked, unmarkedVerdict}
 use Rattle.sheet.proofs.Loops.{Counting, start, end, refused, passed}
 use Rattle.sheet.proofs.checks.reached.Statement.{statement}
 use Rattle.sheet.proofs.checks.reached.Tie as tie
@@ -13,7 +13,7 @@ use Rattle.sheet.proofs.checks.reached.Reads as reads
 use Rattle.sheet.proofs.checks.reached.Lts as lts
 
 abbrev unmarked : List ℕ → ℕ → Bool
-unmarked marks r = not (marked marks r)
+unmarked marks r = not (isMarked marks r)
 
 abbrev Inv-loop : tie.InvT-loop
 Inv-loop marks r₀ r = Counting 7 (unmarked marks) (length marks) r

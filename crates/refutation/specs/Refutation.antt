@@ -7,7 +7,7 @@ use lib.Dec.{leb, ltb, eqb}
 use lib.ListN.{length, getD}
 use Rattle.sheet.specs.declared.Verdict.{Verdict}
 use Rattle.sheet.specs.declared.Verdict.the-variants.{Passes, Refuses}
-use Rattle.sheet.specs.Format.{conditionCount}
+use Rattle.sheet.specs.Format.{lotCount, conditionCount}
 use Rattle.sheet.specs.Conditions.{Term, same, apart, conditions}
 use Rattle.sheet.specs.Checks.{orElse, refusesIf, firstRefusal, sheetChecks, lotInRange}
 use Rattle.sheet.specs.Answers.{Answer, answerOf}
@@ -37,37 +37,43 @@ notFalse isTrue = true
 notFalse isFalse = false
 notFalse isOpen = true
 
--- "A ground passes when every term of its condition is false by the node rules under that path."
+-- "same, a ground | 12 | a term isn't false | record". "A ground passes when every term of its condition is false by the node rules under that
+-- path."
 unfoldable pub groundFails : Decisions → List Term → Bool
 groundFails ds ts = someTerm (λ t. notFalse (value ds t)) ts
 
 -- ---- after a ground
 
--- "the nearest split above it still in its equal branch"; the splits nearer than that one are over.
+-- "the nearest split above it still in its equal branch", on lots a and b, and the splits above that one; those nearer are over.
 pub data Nearest : Type 0 where
   noSplit : Nearest
-  sameSplit : ℕ → ℕ → ℕ → ℕ → List Split → Nearest
+  sameSplit : Split → ℕ → ℕ → List Split → Nearest
 
 abbrev pub nearestOf : Split → Term → List Split → Nearest → Nearest
-nearestOf split (same a b) above further = sameSplit (split .number) (split .next) a b above
+nearestOf split (same a b) above further = sameSplit split a b above
 nearestOf split (apart a b) above further = further
 
 unfoldable pub nearest : List Split → Nearest
 nearest [] = noSplit
 nearest (split ∷ above) = nearestOf split (split .decision) above (nearest above)
 
--- "With no such split the list must end.": `rest` is what follows; a record that is left over is refused by 14.
+-- The split, in its different branch.
+abbrev pub turned : Split → ℕ → ℕ → Split
+turned split a b = record { number = split .number; next = split .next; decision = apart a b }
+
+-- "With no such split the list must end.": `rest` is what follows. "after a split, or after 13 | 14 | a record is left over, or the next one is
+-- missing | that record's number": here one is left over.
 abbrev pub mustEnd : List NodeRecord → ℕ → Verdict
 mustEnd [] following = Passes
 mustEnd (r ∷ rest) following = Refuses 14 following
 
--- "After a ground, the nearest split above it still in its equal branch must have next equal to the following record, and its different
--- branch begins." `walkRest` walks what follows, from a record's number and the splits above it.
+-- "After a ground, the nearest split above it still in its equal branch must have next equal to the following record, and its different branch
+-- begins." "after a ground | 13 | the split's next is wrong | the split". `walkRest` is the walk of what follows the ground, from a record's
+-- number and the splits above it: the recursive call, which has to be on the rest of the list.
 abbrev pub afterGround : (ℕ → List Split → Verdict) → List NodeRecord → ℕ → Nearest → Verdict
 afterGround walkRest rest following noSplit = mustEnd rest following
-afterGround walkRest rest following (sameSplit number next a b above) =
-    orElse (refusesIf (not (eqb next following)) 13 number)
-    (walkRest following (record { number = number; next = next; decision = apart a b } ∷ above))
+afterGround walkRest rest following (sameSplit split a b above) =
+    orElse (refusesIf (not (eqb (split .next) following)) 13 (split .number)) (walkRest following (turned split a b ∷ above))
 
 -- ---- the walk
 
@@ -79,12 +85,12 @@ module _ (s : List ℕ) where
   abbrev pub conditionInRange : ℕ → Bool
   conditionInRange c = leb 1 c && leb c (conditionCount s)
 
-  -- One record, of number `at`, below the splits `above`; `rest` is what follows it. "kind, spare, lot or condition out of range; second or
-  -- next of a ground not 0" is 11: bytes of which one has to be 0 and isn't are decoded as no record. "kinds 1 and 2 only": a met record
+  -- One record, of number `at`, below the splits `above`; `rest` is what follows it. "each record, in turn | 11 | kind, spare, lot or condition out
+  -- of range; second or next of a ground not 0 | record": bytes of which one has to be 0 and isn't are decoded as no record. "kinds 1 and 2 only": a met record
   -- is out of range too. "Splits may name any two lots, also a pair already decided or a lot twice."
   abbrev pub walkRecord : (ℕ → List Split → Verdict) → List NodeRecord → ℕ → List Split → NodeRecord → Verdict
   walkRecord walkRest rest at above (splitRecord a b next) =
-      orElse (refusesIf (not (lotInRange s a && lotInRange s b)) 11 at)
+      orElse (refusesIf (not (lotInRange (lotCount s) a && lotInRange (lotCount s) b)) 11 at)
       (orElse (refusesIf (leb mostSplits (length above)) 15 at)
       (walkRest (suc at) (record { number = at; next = next; decision = same a b } ∷ above)))
   walkRecord walkRest rest at above (groundRecord c) =
@@ -94,7 +100,7 @@ module _ (s : List ℕ) where
   walkRecord walkRest rest at above metRecord = Refuses 11 at
   walkRecord walkRest rest at above noRecord = Refuses 11 at
 
-  -- The walk from record `at` on, which is the first of `list`. Where a record is due and the list is over, it is missing: 14.
+  -- The walk from record `at` on, which is the first of `list`. Where a record is due and the list is over, "the next one is missing": 14.
   unfoldable pub walkFrom : List NodeRecord → ℕ → List Split → Verdict
   walkFrom [] at above = Refuses 14 at
   walkFrom (r ∷ rest) at above = walkRecord (walkFrom rest) rest at above r
@@ -114,7 +120,7 @@ walkVerdict s list = walkFrom s (recordsOf list) 1 []
 unfoldable pub listVerdict : List ℕ → List ℕ → Verdict
 listVerdict s list = firstRefusal (sheetChecks s ++ check10 list ∷ walkVerdict s list ∷ [])
 
--- "A list passes when its walk ends there and no check has refused it."
+-- "A list passes when its walk ends there and no check has refused it.": the list (document 01: grounds) is a refutation of the sheet.
 abbrev pub Refutes : List ℕ → List ℕ → Type 0
 Refutes s list = listVerdict s list ≡ Passes
 

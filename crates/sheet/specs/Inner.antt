@@ -1,0 +1,73 @@
+-- For the contracts of the reader's inner functions; this file states nothing of document 01.
+use Prim.Native.Nat.{ℕ, suc, _+_, _-_, _≤_}
+use mathlib.Core.Bool.{Bool, not}
+use mathlib.Core.List.{List}
+use mathlib.Core.Path.{_≡_}
+use lib.Dec.{eqb}
+use lib.ListN.{length, getD}
+use Rattle.sheet.specs.declared.Header.{Header}
+use Rattle.sheet.specs.declared.Term.{Term}
+use Rattle.sheet.specs.declared.Verdict.{Verdict}
+use Rattle.sheet.specs.declared.Verdict.the-variants.{Passes, Refuses}
+use Rattle.sheet.specs.Format.{mostLots, mostConditions, mostRecords, lotCount, conditionCount, recordCount, sheetLength, headAt, recordPlace, signAt, firstLotAt, secondLotAt, nextAt}
+use Rattle.sheet.specs.Checks.{Walk, reached, twice, member, walkChain, lowestRefusal}
+
+-- ---- the format, as the code's types have it
+
+-- The header's counts.
+abbrev pub headerAt : List ℕ → Header
+headerAt s = record { lots = lotCount s; conditions = conditionCount s; records = recordCount s }
+
+-- The term record r, without its spare byte.
+abbrev pub termRecordAt : List ℕ → ℕ → Term
+termRecordAt s r =
+    record {
+      sign = signAt s r;
+      a = record { 0 = firstLotAt s r };
+      b = record { 0 = secondLotAt s r };
+      next = record { 0 = nextAt s r };
+    }
+
+-- Record r stands whole in the bytes s, whose header counts m conditions.
+pub record HasRecord (s : List ℕ) (m r : ℕ) : Type 0 where
+  pub counted : m ≡ conditionCount s
+  pub least : 1 ≤ r
+  pub whole : recordPlace m r + 8 ≤ length s
+
+-- The bytes s have the header h, whose counts are within their limits, and the length that it gives: checks 1 to 3 have passed.
+pub record HasHeader (s : List ℕ) (h : Header) : Type 0 where
+  pub counts : h ≡ headerAt s
+  pub lots : lotCount s ≤ mostLots
+  pub conditions : conditionCount s ≤ mostConditions
+  pub records : recordCount s ≤ mostRecords
+  pub whole : length s ≡ sheetLength (conditionCount s) (recordCount s)
+
+-- ---- marks of the records that a walk has reached: mark i is that of record i + 1, and 1 stands for "reached"
+
+-- Whether record r is marked.
+abbrev pub isMarked : List ℕ → ℕ → Bool
+isMarked marks r = eqb (getD marks (r - 1) 0) 1
+
+-- The marks stand for the records in `seen`.
+pub record Marks (marks seen : List ℕ) : Type 0 where
+  pub stand : (r : ℕ) → 1 ≤ r → r ≤ length marks → isMarked marks r ≡ member r seen
+
+-- Check 7 over marks: the lowest record that is not marked.
+unfoldable pub unmarkedVerdict : List ℕ → Verdict
+unmarkedVerdict marks = lowestRefusal 7 (λ r. not (isMarked marks r)) (length marks) 1
+
+-- What a walk needs of the bytes s, of which checks 1 to 5 have passed, and of the marks: it never leaves the records.
+pub record Walkable (s : List ℕ) (h : Header) (marks : List ℕ) : Type 0 where
+  pub header : HasHeader s h
+  pub room : length marks ≡ recordCount s
+  pub heads : (c : ℕ) → 1 ≤ c → c ≤ conditionCount s → headAt s c ≤ recordCount s
+  pub nexts : (r : ℕ) → 1 ≤ r → r ≤ recordCount s → nextAt s r ≤ recordCount s
+
+-- The walk along the chain from `head`, after the records `seen`, with the fuel that is enough.
+abbrev pub oneChain : List ℕ → List ℕ → ℕ → Walk
+oneChain s seen head = walkChain s (suc (recordCount s)) seen head
+
+-- A walk's verdict, and the marks that it leaves where it passes.
+abbrev pub WalkedTo : Walk → Verdict → List ℕ → Type 0
+WalkedTo (reached seen) verdict marks = (verdict ≡ Passes) × Marks marks seen
+WalkedTo (twice r) verdict marks = verdict ≡ Refuses 6 r
