@@ -1,0 +1,103 @@
+-- Node records and their bytes are one codec: what is encoded is decoded again, record by record.
+use Prim.Native.Nat.{ℕ, zero, suc, _+_, _*_, _-_, _/_, _%_, _≤_, _<_}
+use mathlib.Core.List.{List, [], _∷_, _++_, map}
+use mathlib.Core.Path.{_≡_, refl, sym, ap, _∙_}
+use native.Mathlib.Nat.{add-assoc}
+use native.Mathlib.Omega.{arith}
+use lib.ListN.{length, getD, length-append}
+use lib.Seq.{getD-append-add, ext-getD}
+use Rattle.sheet.specs.Bytes.{number, twoBytes}
+use Rattle.sheet.specs.Conditions.{countUp}
+use Rattle.sheet.proofs.Ranges.{All, length-along, getD-along}
+use Rattle.equality.specs.Search.{Tree, metLeaf, groundLeaf, oneBranch, twoBranches, nodeCount}
+use Rattle.store.specs.Records.{NodeRecord, splitRecord, groundRecord, metRecord, noRecord, records, recordLength, fields, encode, ofKind, decode, recordAt, recordsOf, encodeAll}
+
+-- ---- lengths
+
+pub encode-length : (r : NodeRecord) → length (encode r) ≡ recordLength
+unfolding encode twoBytes
+encode-length (splitRecord a b next) = refl
+encode-length (groundRecord c) = refl
+encode-length metRecord = refl
+encode-length noRecord = refl
+
+pub encodeAll-length : (rs : List NodeRecord) → length (encodeAll rs) ≡ recordLength * length rs
+unfolding encodeAll
+encodeAll-length [] = refl
+encodeAll-length (r ∷ rs) = length-append (encode r) (encodeAll rs) ∙ omega (arith, encode-length r, encodeAll-length rs)
+
+-- A search writes as many records as it visits nodes.
+pub records-count : (at : ℕ) (t : Tree) → length (records at t) ≡ nodeCount t
+unfolding records nodeCount
+records-count at (metLeaf ds) = refl
+records-count at (groundLeaf c) = refl
+records-count at (oneBranch a b t) = omega (arith, records-count (at + 1) t)
+records-count at (twoBranches a b t u) =
+    omega (arith, length-append (records (at + 1) t) (records (at + 1 + nodeCount t) u), records-count (at + 1) t, records-count (at + 1 + nodeCount t) u)
+
+pub bytes-count : (at : ℕ) (t : Tree) → length (encodeAll (records at t)) ≡ recordLength * nodeCount t
+bytes-count at t = encodeAll-length (records at t) ∙ ap (λ (n : ℕ). recordLength * n) (records-count at t)
+
+-- ---- one record
+
+-- The numbers of a record fit two bytes, and it is one of the three kinds.
+abbrev pub Fits : NodeRecord → Type 0
+Fits (splitRecord a b next) = (a < 65536) × (b < 65536) × (next < 65536)
+Fits (groundRecord c) = c < 65536
+Fits metRecord = Unit {0}
+Fits noRecord = ⊥
+
+low-high : (x : ℕ) → x < 65536 → x % 256 + 256 * (x / 256 % 256) ≡ x
+low-high x h = omega arith
+
+pub decode-encode : (r : NodeRecord) (rest : List ℕ) → Fits r → decode (encode r ++ rest) 0 ≡ r
+unfolding decode encode twoBytes number ofKind
+decode-encode (splitRecord a b next) rest h = simp (low-high a (h .0), low-high b (h .1), low-high next (h .2))
+decode-encode (groundRecord c) rest h = simp (low-high c h)
+decode-encode metRecord rest h = refl
+decode-encode noRecord rest h = absurd h
+
+-- ---- all records
+
+module _ (p q : List ℕ) where
+  byte-shift : (i j : ℕ) → getD (p ++ q) (length p + i + j) 0 ≡ getD q (i + j) 0
+  byte-shift i j = rw (add-assoc (length p) i j) (getD-append-add p q (i + j) 0)
+
+  number-shift : (i j : ℕ) → number (p ++ q) (length p + i + j) ≡ number q (i + j)
+  unfolding number
+  number-shift i j = rw (byte-shift i j, add-assoc (length p + i) j 1, byte-shift i (j + 1), ← add-assoc i j 1)
+
+  -- Bytes in front do not matter.
+  pub decode-shift : (i : ℕ) → decode (p ++ q) (length p + i) ≡ decode q i
+  unfolding decode
+  decode-shift i =
+      rw (getD-append-add p q i 0, byte-shift i 1, number-shift i 2, number-shift i 4, number-shift i 6)
+
+pub decode-at : (rs : List NodeRecord) → All Fits rs → (i : ℕ) → i < length rs → decode (encodeAll rs) (recordLength * i) ≡ getD rs i noRecord
+unfolding encodeAll
+decode-at [] fits i h = absurd (omega arith)
+decode-at (r ∷ rs) fits zero h = decode-encode r (encodeAll rs) (fits .0)
+decode-at (r ∷ rs) fits (suc i) h =
+    ap (decode (encode r ++ encodeAll rs)) place
+    ∙ decode-shift (encode r) (encodeAll rs) (recordLength * i)
+    ∙ decode-at rs (fits .1) i (omega arith)
+  where
+    place : recordLength * suc i ≡ length (encode r) + recordLength * i
+    place = omega (arith, encode-length r)
+
+-- What is encoded is decoded again.
+pub records-of : (rs : List NodeRecord) → All Fits rs → recordsOf (encodeAll rs) ≡ rs
+unfolding recordsOf
+records-of rs fits =
+    rw count
+    (ext-getD noRecord (map (recordAt (encodeAll rs)) (countUp (length rs) 1)) rs
+    (length-along (recordAt (encodeAll rs)) (length rs) 1)
+    (λ i h. at i (rw (length-along (recordAt (encodeAll rs)) (length rs) 1) at h)))
+  where
+    count : length (encodeAll rs) / recordLength ≡ length rs
+    count = omega (arith, encodeAll-length rs)
+
+    at : (i : ℕ) → i < length rs → getD (map (recordAt (encodeAll rs)) (countUp (length rs) 1)) i noRecord ≡ getD rs i noRecord
+    at i h =
+        let place : recordLength * (1 + i - 1) ≡ recordLength * i = omega arith in
+        getD-along (recordAt (encodeAll rs)) (length rs) 1 i noRecord h ∙ ap (decode (encodeAll rs)) place ∙ decode-at rs fits i h
