@@ -13,3 +13,5 @@ pub mod Right
 pub mod Truth
 pub mod Bounds
 pub mod Branching
+pub mod Evaluator
+pub mod Agree
