@@ -1,4 +1,5 @@
 pub mod Verdicts
+pub mod Further
 pub mod Times
 pub mod Ranges
 pub mod Distinct

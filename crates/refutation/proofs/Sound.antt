@@ -1,0 +1,153 @@
+-- What passes is a refutation (theorem 6): whatever the list, and from whichever hand, no assignment meets the sheet.
+use Prim.Native.Nat.{ℕ, zero, suc, _-_, _≤_, _<_}
+use mathlib.Core.Bool.{Bool, true, false, not, _&&_, false≢true, and-eq-true-iff}
+use mathlib.Core.List.{List, [], _∷_, _++_}
+use mathlib.Core.Logic.{_≢_}
+use mathlib.Core.Path.{_≡_, refl, sym, ap, _∙_}
+use native.Mathlib.Omega.{arith}
+use borrow.Author.Tests.{leb-true, not-false}
+use lib.Dec.{eqb, leb}
+use lib.ListN.{length, getD}
+use Rattle.sheet.specs.declared.Verdict.{Verdict}
+use Rattle.sheet.specs.declared.Verdict.the-variants.{Passes, Refuses}
+use Rattle.sheet.specs.Format.{mostLots, lotCount, conditionCount}
+use Rattle.sheet.specs.Checks.{Accepted, orElse, refusesIf, lotInRange}
+use Rattle.sheet.specs.Conditions.{Term, same, apart, conditions}
+use Rattle.sheet.proofs.Verdicts.{orElse-passes, refusesIf-passes, firstRefusal-passes}
+use Rattle.sheet.proofs.Further.{further-passes}
+use Rattle.sheet.proofs.Ranges.{All}
+use Rattle.sheet.proofs.Accepted.{sound}
+use Rattle.sheet.proofs.Conditions.{conditions-length}
+use Rattle.equality.specs.Meaning.{Holds, MeetsCondition, MeetsAll, Meets}
+use Rattle.equality.specs.Node.{Decisions, Respects, Value, isTrue, isFalse, isOpen, value}
+use Rattle.equality.proofs.Some.{some-none, none-some}
+use Rattle.equality.proofs.Small.{Small, conditions-small}
+use Rattle.equality.proofs.Classes.{Says, value-says}
+use Rattle.store.specs.Records.{NodeRecord, splitRecord, groundRecord, metRecord, noRecord, recordsOf}
+use Rattle.refutation.specs.Refutation.{mostSplits, Split, decisionsOf, notFalse, groundFails, Nearest, noSplit, sameSplit, nearestOf, nearest, turned, mustEnd, afterGround, named, conditionInRange, walkRecord, walkFrom, check10, walkVerdict, listVerdict, Refutes}
+
+refuses-passes : {check place : ℕ} → Refuses check place ≡ Passes → ⊥
+refuses-passes e = let z : _≡_ {A = ℕ} 0 1 = cc in omega arith
+
+-- ---- elements by their places
+
+all-nth : {A : Type 0} (P : A → Type 0) (xs : List A) (d : A) → All P xs → (i : ℕ) → i < length xs → P (getD xs i d)
+all-nth P [] d h i lt = absurd (omega arith)
+all-nth P (x ∷ xs) d h zero lt = h .0
+all-nth P (x ∷ xs) d h (suc i) lt = all-nth P xs d (h .1) i (omega arith)
+
+meets-nth : {A : Type 0} (f : ℕ → A) (tss : List (List Term)) → MeetsAll f tss → (i : ℕ) → i < length tss → MeetsCondition f (getD tss i [])
+unfolding MeetsAll
+meets-nth f [] h i lt = absurd (omega arith)
+meets-nth f (ts ∷ tss) h zero lt = h .0
+meets-nth f (ts ∷ tss) h (suc i) lt = meets-nth f tss (h .1) i (omega arith)
+
+-- ---- what a passing walk excludes
+
+module _ {A : Type 0} (decide : (x y : A) → Dec (x ≡ y)) (f : ℕ → A) (s : List ℕ) (ok : Accepted s) (meets : Meets f s) where
+  -- The assignment does not respect the decisions above a split with the pair set apart, where the split is in its same branch.
+  abbrev TurnedOut : Term → List Split → Type 0
+  TurnedOut (same a b) above = ¬ Respects f (apart a b ∷ decisionsOf above)
+  TurnedOut (apart a b) above = Unit {0}
+
+  abbrev Turns : List Split → Type 0
+  Turns [] = Unit {0}
+  Turns (split ∷ above) = TurnedOut (split .decision) above × Turns above
+
+  -- It respects neither the path nor any that turns at a split still in its same branch.
+  abbrev Excluded : List Split → Type 0
+  Excluded above = (¬ Respects f (decisionsOf above)) × Turns above
+
+  -- ---- a ground
+
+  ground-excludes : (ds : Decisions) → All Small ds → (c : ℕ) → conditionInRange s c ≡ true → groundFails ds (named s c) ≡ false → ¬ Respects f ds
+  unfolding groundFails
+  ground-excludes ds small c inRange passes respects =
+      none-some (λ t. notFalse (value ds t)) (Holds f) (named s c) passes
+      (falses (named s c) (all-nth (All Small) (conditions s) [] (conditions-small s ok) (c - 1) place) (some-none (λ t. notFalse (value ds t)) (named s c) passes))
+      (meets-nth f (conditions s) meets (c - 1) place)
+    where
+      place : c - 1 < length (conditions s)
+      place =
+          let both = and-eq-true-iff (leb 1 c) (leb c (conditionCount s)) .0 inRange in
+          omega (arith, leb-true 1 c (both .0), leb-true c (conditionCount s) (both .1), conditions-length s)
+
+      one : (t : Term) → Small t → (v : Value) → value ds t ≡ v → notFalse v ≡ false → ¬ Holds f t
+      one t small′ isTrue e n = absurd (false≢true (sym n))
+      one t small′ isFalse e n = let says : Says f ds small respects isFalse t = rw e at (value-says f ds small respects t small′) in says
+      one t small′ isOpen e n = absurd (false≢true (sym n))
+
+      falses : (ts : List Term) → All Small ts → All (λ t. notFalse (value ds t) ≡ false) ts → All (λ t. ¬ Holds f t) ts
+      falses [] small′ all = tt
+      falses (t ∷ ts) small′ all = (one t (small′ .0) (value ds t) refl (all .0), falses ts (small′ .1) (all .1))
+
+  -- ---- after a ground
+
+  -- A walk from any record on, below any splits, whose passing excludes.
+  abbrev Excludes : (ℕ → List Split → Verdict) → Type 0
+  Excludes walk = (at : ℕ) (above : List Split) → All Small (decisionsOf above) → walk at above ≡ Passes → Excluded above
+
+  turns : (walk : ℕ → List Split → Verdict) → Excludes walk → (rest : List NodeRecord) (following : ℕ) (above : List Split) → All Small (decisionsOf above)
+      → afterGround walk rest following (nearest above) ≡ Passes → Turns above
+  unfolding nearest
+  turns walk excludes rest following [] small e = tt
+  turns walk excludes rest following (split ∷ above) small e = go (split .decision) refl e (turns walk excludes rest following above (small .1))
+    where
+      go : (d : Term) → split .decision ≡ d → afterGround walk rest following (nearestOf split d above (nearest above)) ≡ Passes
+          → (afterGround walk rest following (nearest above) ≡ Passes → Turns above) → Turns (split ∷ above)
+      go (same a b) q e further =
+          let passes = orElse-passes (refusesIf (not (eqb (split .next) following)) 13 (split .number)) (walk following (turned split a b ∷ above)) e in
+          let pair : Small (same a b) = rw q at (small .0) in
+          let excluded = excludes following (turned split a b ∷ above) (pair, small .1) (passes .1) in
+          (rw q (excluded .0), excluded .1 .1)
+      go (apart a b) q e further = (rw q tt, further e)
+
+  -- ---- the walk
+
+  in-range-small : (a b : ℕ) → (lotInRange (lotCount s) a && lotInRange (lotCount s) b) ≡ true → Small (same a b)
+  in-range-small a b e =
+      let both = and-eq-true-iff (lotInRange (lotCount s) a) (lotInRange (lotCount s) b) .0 e in
+      let first = and-eq-true-iff (leb 1 a) (leb a (lotCount s)) .0 (both .0) in
+      let second = and-eq-true-iff (leb 1 b) (leb b (lotCount s)) .0 (both .1) in
+      omega (arith, leb-true a (lotCount s) (first .1), leb-true b (lotCount s) (second .1), sound s ok .header .lots)
+
+  record-excludes : (r : NodeRecord) (rest : List NodeRecord) (walk : ℕ → List Split → Verdict) → Excludes walk
+      → (at : ℕ) (above : List Split) → All Small (decisionsOf above) → walkRecord s walk rest at above r ≡ Passes → Excluded above
+  unfolding Respects
+  record-excludes (splitRecord a b next) rest walk excludes at above small e =
+      let below : List Split = record { number = at; next = next; decision = same a b } ∷ above in
+      let deep = orElse-passes (refusesIf (leb mostSplits (length above)) 15 at) (walk (suc at) below) in
+      let lots = orElse-passes (refusesIf (not (lotInRange (lotCount s) a && lotInRange (lotCount s) b)) 11 at) _ e in
+      let pair = in-range-small a b (not-false _ (refusesIf-passes (not (lotInRange (lotCount s) a && lotInRange (lotCount s) b)) 11 at (lots .0))) in
+      let excluded = excludes (suc at) below (pair, small) (deep (lots .1) .1) in
+      (either (decide (f a) (f b)) (excluded .0) (excluded .1 .0), excluded .1 .1)
+    where
+      either : Dec (f a ≡ f b) → ¬ Respects f (same a b ∷ decisionsOf above) → ¬ Respects f (apart a b ∷ decisionsOf above) → ¬ Respects f (decisionsOf above)
+      either (yes equal) sameOut apartOut respects = sameOut (equal, respects)
+      either (no differ) sameOut apartOut respects = apartOut (differ, respects)
+  record-excludes (groundRecord c) rest walk excludes at above small e =
+      let numbered = orElse-passes (refusesIf (not (conditionInRange s c)) 11 at) _ e in
+      let passed = orElse-passes (refusesIf (groundFails (decisionsOf above) (named s c)) 12 at) (afterGround walk rest (suc at) (nearest above)) (numbered .1) in (
+        ground-excludes (decisionsOf above) small c (not-false _ (refusesIf-passes (not (conditionInRange s c)) 11 at (numbered .0)))
+            (refusesIf-passes (groundFails (decisionsOf above) (named s c)) 12 at (passed .0)),
+        turns walk excludes rest (suc at) above small (passed .1),
+      )
+  record-excludes metRecord rest walk excludes at above small e = absurd (refuses-passes e)
+  record-excludes noRecord rest walk excludes at above small e = absurd (refuses-passes e)
+
+  walk-excludes : (list : List NodeRecord) → Excludes (walkFrom s list)
+  unfolding walkFrom
+  walk-excludes [] at above small e = absurd (refuses-passes e)
+  walk-excludes (r ∷ rest) at above small e = record-excludes r rest (walkFrom s rest) (walk-excludes rest) at above small e
+
+  no-meeting : (list : List ℕ) → walkVerdict s list ≡ Passes → ⊥
+  unfolding walkVerdict Respects
+  no-meeting list e = walk-excludes (recordsOf list) 1 [] tt e .0 tt
+
+-- Theorem 6.
+pub refutation-sound : (s list : List ℕ) → Refutes s list → {A : Type 0} → ((x y : A) → Dec (x ≡ y)) → (f : ℕ → A) → ¬ Meets f s
+unfolding listVerdict
+refutation-sound s list passes decide f meets =
+    let accepted = further-passes s (check10 list ∷ walkVerdict s list ∷ []) passes in
+    let long = firstRefusal-passes (check10 list) (walkVerdict s list ∷ []) (accepted .1) in
+    no-meeting decide f s (accepted .0) meets list (firstRefusal-passes (walkVerdict s list) [] (long .1) .0)
