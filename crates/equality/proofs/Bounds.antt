@@ -1,16 +1,29 @@
 -- How deep and how many: no path has more splits than the sheet has "same" terms (theorem 4), and for any φ that a split's branches share the
 -- nodes are at most 2 φ − 1 (theorem 5, the general lemma).
 use Prim.Native.Nat.{ℕ, suc, _+_, _≤_}
-use mathlib.Core.List.{List, [], _∷_}
+use mathlib.Core.List.{List, [], _∷_, flatten}
 use native.Mathlib.Omega.{arith}
+use lib.ListN.{length, length-append}
 use Rattle.sheet.specs.Conditions.{Term, same, apart}
 use Rattle.sheet.proofs.Ranges.{All}
 use Rattle.equality.specs.Node.{Decisions}
-use Rattle.equality.specs.Search.{Tree, depth, nodeCount, allSameTerms, searchTree}
+use Rattle.equality.specs.Search.{Tree, depth, nodeCount, sameTerms, allSameTerms, searchTree}
 use Rattle.equality.proofs.Small.{Small}
 use Rattle.equality.proofs.Rule.{SplitAt, split-at}
 use Rattle.equality.proofs.Opens.{allOpens, opens-all-same, pair-small, same-fewer, apart-fewer}
 use Rattle.equality.proofs.Visits.{Visits, visits-met, visits-ground, visits-one, visits-two, search-visits}
+
+-- "Same" terms are terms.
+same-terms : (ts : List Term) → sameTerms ts ≤ length ts
+unfolding sameTerms
+same-terms [] = omega arith
+same-terms (same a b ∷ ts) = omega (arith, same-terms ts)
+same-terms (apart a b ∷ ts) = omega (arith, same-terms ts)
+
+pub all-same-terms : (tss : List (List Term)) → allSameTerms tss ≤ length (flatten tss)
+unfolding allSameTerms flatten
+all-same-terms [] = omega arith
+all-same-terms (ts ∷ tss) = omega (arith, length-append ts (flatten tss), same-terms ts, all-same-terms tss)
 
 module _ (tss : List (List Term)) (smalls : All (All Small) tss) where
   -- ---- depth

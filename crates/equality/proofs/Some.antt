@@ -17,6 +17,11 @@ unfolding AnyTerm
 none-any P [] none = λ h. h
 none-any P (t ∷ ts) none = ⊎-elim (none .0) (none-any P ts (none .1))
 
+any-false : (q : Term → Bool) (ts : List Term) → All (λ t. q t ≡ false) ts → anyTerm q ts ≡ false
+unfolding anyTerm
+any-false q [] none = refl
+any-false q (t ∷ ts) none = rw (none .0) (any-false q ts (none .1))
+
 module _ (p : Term → Bool) where
   any-none : (ts : List Term) → anyTerm p ts ≡ false → All (λ t. p t ≡ false) ts
   unfolding anyTerm
@@ -32,6 +37,12 @@ module _ (p : Term → Bool) where
   -- Two tests that agree at each term agree on the condition.
   pub some-agrees : (q : Term → Bool) → ((t : Term) → p t ≡ q t) → (ts : List Term) → someTerm p ts ≡ someTerm q ts
   some-agrees q each ts = ap (λ (r : Term → Bool). someTerm r ts) (fun-ext each)
+
+  -- A condition of which no term is such, by one test, has none by another test that none of its terms passes.
+  pub none-too : (q : Term → Bool) (ts : List Term) → someTerm p ts ≡ false → All (λ t. q t ≡ false) ts → someTerm q ts ≡ false
+  unfolding someTerm
+  none-too q [] e none = e
+  none-too q (t ∷ ts) e none = rw (none .0) (any-false q ts (none .1))
 
   -- A condition of which no term is such, by the test, has no term that is otherwise, where none of its terms is.
   pub none-some : (P : Term → Type 0) (ts : List Term) → someTerm p ts ≡ false → All (λ t. ¬ P t) ts → ¬ SomeTerm P ts

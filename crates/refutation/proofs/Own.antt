@@ -1,0 +1,165 @@
+-- The search's own grounds pass (theorem 7): the records of a search without a met node are a refutation.
+use Prim.Native.Nat.{ℕ, suc, _+_, _-_, _/_, _%_, _≤_}
+use mathlib.Core.Bool.{Bool, true, false, not, _&&_, false≢true}
+use mathlib.Core.List.{List, [], _∷_, _++_, append-nil, append-assoc}
+use mathlib.Core.Path.{_≡_, refl, sym, ap, _∙_}
+use native.Mathlib.Numerals.{add-one}
+use native.Mathlib.Omega.{arith}
+use borrow.Author.Tests.{le-leb, lt-leb, le-ltb, eq-eqb, ne-eqb}
+use lib.Dec.{leb, eqb}
+use lib.ListN.{length, getD, length-append}
+use lib.Seq.{getD-append-seam}
+use Rattle.sheet.specs.declared.Verdict.{Verdict}
+use Rattle.sheet.specs.declared.Verdict.the-variants.{Passes, Refuses}
+use Rattle.sheet.specs.Format.{mostConditions, lotCount, conditionCount}
+use Rattle.sheet.specs.Checks.{Accepted, orElse, refusesIf, firstRefusal, lotInRange}
+use Rattle.sheet.proofs.Verdicts.{passes-firstRefusal}
+use Rattle.sheet.proofs.Further.{further-accepted}
+use Rattle.sheet.specs.Conditions.{Term, same, apart, conditions}
+use Rattle.sheet.proofs.Ranges.{All}
+use Rattle.sheet.proofs.Accepted.{InLots, sound}
+use Rattle.sheet.proofs.Conditions.{TermIn, conditions-length, conditions-in, terms-length}
+use Rattle.equality.specs.Node.{Decisions, isFalse, value, trueOrOpenApart, node, split, ground}
+use Rattle.equality.specs.Search.{Tree, metLeaf, groundLeaf, oneBranch, twoBranches, isMet, nodeCount, depth, searchTree}
+use Rattle.equality.proofs.Some.{none-too}
+use Rattle.equality.proofs.Small.{Small, all-map, conditions-small}
+use Rattle.equality.proofs.Rule.{TakenAt, GroundAt, SplitAt, ground-at, ground-false, split-at}
+use Rattle.equality.proofs.Opens.{all-at, pair-small}
+use Rattle.equality.proofs.Visits.{Visits, visits-met, visits-ground, visits-one, visits-two, search-visits}
+use Rattle.equality.proofs.Bounds.{search-depth, all-same-terms}
+use Rattle.store.specs.Records.{NodeRecord, splitRecord, groundRecord, records, encodeAll, recordLength, mostNodes}
+use Rattle.store.proofs.Codec.{Fits, bytes-count, records-of}
+use Rattle.refutation.specs.Refutation.{mostSplits, Split, decisionsOf, notFalse, groundFails, nearest, turned, afterGround, named, conditionInRange, walkFrom, check10, walkVerdict, listVerdict, Refutes}
+
+fit-append : (xs ys : List NodeRecord) → All Fits xs → All Fits ys → All Fits (xs ++ ys)
+fit-append [] ys hx hy = hy
+fit-append (x ∷ xs) ys hx hy = (hx .0, fit-append xs ys (hx .1) hy)
+
+node-count : (t : Tree) → 1 ≤ nodeCount t
+unfolding nodeCount
+node-count (metLeaf ds) = omega arith
+node-count (groundLeaf c) = omega arith
+node-count (oneBranch a b t) = omega arith
+node-count (twoBranches a b t u) = omega arith
+
+in-lots : (n lot : ℕ) → InLots n lot → lotInRange n lot ≡ true
+in-lots n lot h = simp (le-leb 1 lot (h .low), le-leb lot n (h .high))
+
+module _ (s : List ℕ) (ok : Accepted s) where
+  -- ---- a ground
+
+  taken-named : (ds : Decisions) (c : ℕ) (ts : List Term) → TakenAt ds 1 (conditions s) c ts → named s c ≡ ts
+  taken-named ds c ts at =
+      let place : c - 1 ≡ length (at .front) = omega (arith, at .number) in
+      rw (at .place, place) (getD-append-seam (at .front) ts (at .back) [])
+
+  taken-numbered : (ds : Decisions) (c : ℕ) (ts : List Term) → TakenAt ds 1 (conditions s) c ts → conditionInRange s c ≡ true
+  taken-numbered ds c ts at =
+      let count : length (conditions s) ≡ length (at .front) + suc (length (at .back)) =
+      ap length (at .place) ∙ length-append (at .front) (ts ∷ at .back) in
+      simp
+      (le-leb 1 c (omega (arith, at .number)), le-leb c (conditionCount s) (omega (arith, at .number, count, conditions-length s)))
+
+  ground-passes : (ds : Decisions) (c : ℕ) → GroundAt ds (conditions s) c → groundFails ds (named s c) ≡ false
+  unfolding groundFails
+  ground-passes ds c at =
+      rw (taken-named ds c (at .terms) (at .taken))
+      (none-too (λ t. trueOrOpenApart t (value ds t)) (λ t. notFalse (value ds t)) (at .terms) (at .taken .unmet)
+      (all-map (λ t e. ap notFalse e) (at .terms) (ground-false at)))
+
+  -- ---- a split
+
+  split-lots : (ds : Decisions) (a b : ℕ) → SplitAt ds (conditions s) a b → (lotInRange (lotCount s) a && lotInRange (lotCount s) b) ≡ true
+  split-lots ds a b at =
+      let terms = all-at (All (TermIn (lotCount s))) (at .taken .front) (at .terms) (at .taken .back) (rw (at .taken .place) at (conditions-in s ok)) in
+      let pair = all-at (TermIn (lotCount s)) (at .first .before) (same a b) (at .first .after) (rw (at .first .place) at terms) in
+      simp (in-lots (lotCount s) a (pair .0), in-lots (lotCount s) b (pair .1))
+
+  -- ---- a whole tree does to the walk what a ground does
+
+  own-walk : {ds : Decisions} {t : Tree} → Visits (conditions s) ds t → isMet t ≡ false → All Small ds
+      → (above : List Split) → decisionsOf above ≡ ds → length above + depth t ≤ mostSplits
+      → (at : ℕ) (rest : List NodeRecord)
+      → walkFrom s (records at t ++ rest) at above ≡ afterGround (walkFrom s rest) rest (at + nodeCount t) (nearest above)
+  unfolding isMet records nodeCount depth walkFrom nearest
+  own-walk (visits-met e) m small above path deep at rest = absurd (false≢true (sym m))
+  own-walk {ds} (visits-ground {c = c} e) m small above path deep at rest =
+      let ground′ = ground-at ds (conditions s) c e in
+      rw (path, taken-numbered ds c (ground′ .terms) (ground′ .taken), ground-passes ds c ground′, add-one)
+  own-walk (visits-one e v q) m small above path deep at rest = absurd (false≢true (sym m ∙ q))
+  own-walk {ds} (visits-two {a = a} {b = b} {t = t} {u = u} e v q w) m small above path deep at rest =
+      let split′ = split-at ds (conditions s) a b e in
+      let pair = pair-small ds small (conditions s) (conditions-small s ok) a b split′ in
+      let next : ℕ = at + 1 + nodeCount t in
+      let here : Split = record { number = at; next = next; decision = same a b } in
+      let same-branch = own-walk v q (pair, small) (here ∷ above) (ap (λ (l : Decisions). same a b ∷ l) path) (omega arith) (at + 1) (records next u ++ rest) in
+      let apart-branch = own-walk w m (pair, small) (turned here a b ∷ above) (ap (λ (l : Decisions). apart a b ∷ l) path) (omega arith) next rest in
+      let turn : orElse (refusesIf (not (eqb next next)) 13 at) (walkFrom s (records next u ++ rest) next (turned here a b ∷ above))
+      ≡ walkFrom s (records next u ++ rest) next (turned here a b ∷ above) = simp (eq-eqb next next refl) in
+      let count : next + nodeCount u ≡ at + (1 + (nodeCount t + nodeCount u)) = omega arith in
+      rw (split-lots ds a b split′, lt-leb mostSplits (length above) (omega arith))
+      ((λ i. walkFrom s (append-assoc (records (at + 1) t) (records next u) rest i) (sym (add-one at) i) (here ∷ above))
+      ∙ same-branch
+      ∙ turn
+      ∙ apart-branch
+      ∙ ap (λ (n : ℕ). afterGround (walkFrom s rest) rest n (nearest above)) count)
+
+  -- ---- the bytes
+
+  -- The records fit their bytes where their numbers do.
+  own-fit : {ds : Decisions} {t : Tree} → Visits (conditions s) ds t → All Small ds → (at : ℕ) → at + nodeCount t ≤ suc mostNodes → All Fits (records at t)
+  unfolding records nodeCount
+  own-fit (visits-met e) small at h = (tt, tt)
+  own-fit {ds} (visits-ground {c = c} e) small at h =
+      let taken = ground-at ds (conditions s) c e .taken in
+      (omega (arith, numbered taken), tt)
+    where
+      numbered : {ts : List Term} → TakenAt ds 1 (conditions s) c ts → c ≤ mostConditions
+      numbered {ts} taken =
+          let count : length (conditions s) ≡ length (taken .front) + suc (length (taken .back)) =
+          ap length (taken .place) ∙ length-append (taken .front) (ts ∷ taken .back) in
+          omega (arith, taken .number, count, conditions-length s, sound s ok .header .conditions)
+  own-fit {ds} (visits-one {a = a} {b = b} e v q) small at h =
+      let pair = pair-small ds small (conditions s) (conditions-small s ok) a b (split-at ds (conditions s) a b e) in
+      (omega arith, own-fit v (pair, small) (at + 1) (omega arith))
+  own-fit {ds} (visits-two {a = a} {b = b} {t = t} {u = u} e v q w) small at h =
+      let pair = pair-small ds small (conditions s) (conditions-small s ok) a b (split-at ds (conditions s) a b e) in
+      (omega (arith, node-count u), fit-append (records (at + 1) t) (records (at + 1 + nodeCount t) u) (own-fit v (pair, small) (at + 1) (omega arith)) (own-fit w (pair, small) (at + 1 + nodeCount t) (omega arith)))
+
+  -- ---- the search
+
+  -- Where the search has no met node and at most 65,535 nodes, its bytes pass.
+  module _ (m : isMet (searchTree (conditions s)) ≡ false) (few : nodeCount (searchTree (conditions s)) ≤ mostNodes) where
+    tree : Tree
+    tree = searchTree (conditions s)
+
+    bytes : List ℕ
+    bytes = encodeAll (records 1 tree)
+
+    long-enough : check10 bytes ≡ Passes
+    unfolding check10 bytes tree
+    long-enough =
+        let count = bytes-count 1 (searchTree (conditions s)) in
+        let some = node-count (searchTree (conditions s)) in
+        simp (
+          ne-eqb (length (encodeAll (records 1 (searchTree (conditions s))))) 0 (λ e. omega arith),
+          eq-eqb (length (encodeAll (records 1 (searchTree (conditions s)))) % recordLength) 0 (omega arith),
+          le-ltb mostNodes (length (encodeAll (records 1 (searchTree (conditions s)))) / recordLength) (omega arith),
+        )
+
+    walk-passes : walkVerdict s bytes ≡ Passes
+    unfolding walkVerdict bytes tree nearest
+    walk-passes =
+        let visits = search-visits (conditions s) (conditions-small s ok) in
+        let decoded = records-of (records 1 (searchTree (conditions s))) (own-fit visits tt 1 (omega arith)) in
+        let deep : depth (searchTree (conditions s)) ≤ mostSplits =
+        omega (arith, search-depth (conditions s) (conditions-small s ok), all-same-terms (conditions s), terms-length s ok, sound s ok .header .records) in
+        ap (λ (list : List NodeRecord). walkFrom s list 1 []) (decoded ∙ sym (append-nil (records 1 (searchTree (conditions s)))))
+        ∙ own-walk visits m tt [] refl (omega arith) 1 []
+
+    -- Theorem 7.
+    pub own-grounds-pass : Refutes s (encodeAll (records 1 (searchTree (conditions s))))
+    unfolding listVerdict bytes tree
+    own-grounds-pass =
+        further-accepted s (check10 bytes ∷ walkVerdict s bytes ∷ []) ok
+        ∙ passes-firstRefusal (check10 bytes) (walkVerdict s bytes ∷ []) long-enough (passes-firstRefusal (walkVerdict s bytes) [] walk-passes (unfold firstRefusal in refl))
