@@ -15,3 +15,4 @@ pub mod Bounds
 pub mod Branching
 pub mod Evaluator
 pub mod Agree
+pub mod Sheets

@@ -8,7 +8,7 @@ use Rattle.sheet.specs.declared.Verdict.{Verdict}
 use Rattle.sheet.specs.Format.{lotCount}
 use Rattle.sheet.specs.Conditions.{Term, conditions}
 use Rattle.sheet.specs.Checks.{refusesIf, firstRefusal, sheetChecks}
-use Rattle.sheet.specs.Answers.{Answer, answerOf}
+use Rattle.sheet.specs.Answers.{Answer, answered, answerOf}
 use Rattle.equality.specs.Meaning.{Meets, meetsCondition}
 
 -- "grouping (search, judge) | 8 | shorter than n | n"
@@ -36,4 +36,4 @@ lowestUnmet f c (ts ∷ tss) = cond (meetsCondition f ts) (lowestUnmet f (suc c)
 unfoldable pub evaluateAnswer : List ℕ → List ℕ → Answer
 evaluateAnswer s grouping =
     answerOf (groupingVerdict s grouping)
-    (record { check = 0; first = lowestUnmet (numberIn grouping) 1 (conditions s); second = 0; third = 0 })
+    (answered (lowestUnmet (numberIn grouping) 1 (conditions s)) 0 0)

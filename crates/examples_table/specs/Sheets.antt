@@ -3,7 +3,7 @@
 use Prim.Native.Nat.{ℕ}
 use mathlib.Core.List.{List, [], _∷_}
 use lib.ListN.{replicate}
-use Rattle.sheet.specs.Answers.{Answer, refusal}
+use Rattle.sheet.specs.Answers.{Answer, refused, answered}
 
 -- The sheet's bytes, grouping and store as lent; the answer, grouping and store afterwards.
 pub record Row : Type 0 where
@@ -16,10 +16,10 @@ pub record Row : Type 0 where
 
 -- Met and cannot, with the count of records.
 abbrev pub metWith : ℕ → Answer
-metWith count = record { check = 0; first = 1; second = count; third = 0 }
+metWith count = answered 1 count 0
 
 abbrev pub cannotWith : ℕ → Answer
-cannotWith count = record { check = 0; first = 2; second = count; third = 0 }
+cannotWith count = answered 2 count 0
 
 -- ---- the sheets: header, heads, then a record a line
 
@@ -146,7 +146,7 @@ rowFull =
       sheet = sheetC;
       grouping = replicate 5 170;
       store = replicate 29 170;
-      answer = refusal 9 3;
+      answer = refused 9 3;
       groupingAfter = 170 ∷ 170 ∷ 170 ∷ 170 ∷ 170 ∷ [];
       storeAfter =
           0 ∷ 0 ∷ 0 ∷ 0 ∷ 0 ∷ 0 ∷ 0 ∷ 0 ∷

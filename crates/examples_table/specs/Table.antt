@@ -7,7 +7,7 @@ use Rattle.sheet.specs.Bytes.{number, twoBytes}
 use Rattle.sheet.specs.Format.{headAt, signAt, spareAt, firstLotAt, secondLotAt, nextAt}
 use Rattle.sheet.specs.Checks.{firstRefusal, lowestRefusal, check1, check2, check3, check4, wellFormed, check5, member, walkChain, walkChains, walked, check6, check7, sheetChecks, sheetVerdict}
 use Rattle.sheet.specs.Conditions.{chain, recordsFrom, termsFrom, countUp, conditions}
-use Rattle.sheet.specs.Answers.{Answer}
+use Rattle.sheet.specs.Answers.{Answer, refused, answered}
 use Rattle.equality.specs.Meaning.{anyTerm, someTerm}
 use Rattle.equality.specs.Node.{merged, classes, marked, value, taken, groundOrSplit, node}
 use Rattle.equality.specs.Search.{isMet, afterSame, visitNode, visit, sameTerms, allSameTerms, searchTree, nodeCount, metDecisions, groupingBytes}
@@ -25,29 +25,26 @@ pub record Shown : Type 0 where
   pub outcome : Outcome
   pub confirmed : Answer
 
-abbrev pub passed : Answer
-passed = record { check = 0; first = 0; second = 0; third = 0 }
-
-abbrev pub confirmedBy : List ℕ → Outcome → ℕ → ℕ → Answer
-confirmedBy s outcome zero zero = outcome .answer
-confirmedBy s outcome zero (suc zero) = evaluateAnswer s (outcome .grouping)
-confirmedBy s outcome zero (suc (suc other)) = checkAnswer s (take (recordLength * outcome .answer .second) (outcome .store))
-confirmedBy s outcome (suc check) first = outcome .answer
+abbrev pub confirmedBy : List ℕ → Outcome → Answer → Answer
+confirmedBy s outcome (refused check place) = refused check place
+confirmedBy s outcome (answered zero count third) = answered zero count third
+confirmedBy s outcome (answered (suc zero) count third) = evaluateAnswer s (outcome .grouping)
+confirmedBy s outcome (answered (suc (suc other)) count third) = checkAnswer s (take (recordLength * count) (outcome .store))
 
 abbrev pub computed : Row → Shown
 computed row =
     let outcome = searchOutcome (row .sheet) (row .grouping) (row .store) in
-    record { outcome = outcome; confirmed = confirmedBy (row .sheet) outcome (outcome .answer .check) (outcome .answer .first) }
+    record { outcome = outcome; confirmed = confirmedBy (row .sheet) outcome (outcome .answer) }
 
-abbrev pub confirmedAs : Answer → ℕ → Answer
-confirmedAs answer zero = passed
-confirmedAs answer (suc check) = answer
+abbrev pub confirmedAs : Answer → Answer
+confirmedAs (refused check place) = refused check place
+confirmedAs (answered first count third) = answered 0 0 0
 
 abbrev pub expected : Row → Shown
 expected row =
     record {
       outcome = record { answer = row .answer; grouping = row .groupingAfter; store = row .storeAfter };
-      confirmed = confirmedAs (row .answer) (row .answer .check);
+      confirmed = confirmedAs (row .answer);
     }
 
 -- Every starred sheet has the outcome that document 01 gives, down to the last byte of both buffers; its grouping evaluates to 0, or its records

@@ -10,7 +10,7 @@ use Rattle.sheet.specs.declared.Verdict.the-variants.{Passes, Refuses}
 use Rattle.sheet.specs.Format.{lotCount, conditionCount}
 use Rattle.sheet.specs.Conditions.{Term, same, apart, conditions}
 use Rattle.sheet.specs.Checks.{orElse, refusesIf, firstRefusal, sheetChecks, lotInRange}
-use Rattle.sheet.specs.Answers.{Answer, answerOf}
+use Rattle.sheet.specs.Answers.{Answer, answered, answerOf}
 use Rattle.equality.specs.Meaning.{someTerm}
 use Rattle.equality.specs.Node.{Decisions, Value, isTrue, isFalse, isOpen, value}
 use Rattle.store.specs.Records.{NodeRecord, splitRecord, groundRecord, metRecord, noRecord, recordLength, mostNodes, recordsOf}
@@ -124,6 +124,6 @@ listVerdict s list = firstRefusal (sheetChecks s ++ check10 list ∷ walkVerdict
 abbrev pub Refutes : List ℕ → List ℕ → Type 0
 Refutes s list = listVerdict s list ≡ Passes
 
--- The checker's answer: 0 for a list that passes.
+-- The checker's answer: no value for a list that passes.
 unfoldable pub checkAnswer : List ℕ → List ℕ → Answer
-checkAnswer s list = answerOf (listVerdict s list) (record { check = 0; first = 0; second = 0; third = 0 })
+checkAnswer s list = answerOf (listVerdict s list) (answered 0 0 0)

@@ -1,5 +1,6 @@
 pub mod Verdicts
 pub mod Further
+pub mod Readings
 pub mod Times
 pub mod Ranges
 pub mod Distinct

@@ -1,4 +1,4 @@
--- An answer as numbers: document 01's number of the check that refuses, and its values.
+-- What a service answers, in document 01's numbers.
 use Prim.Native.Nat.{ℕ}
 use mathlib.Core.List.{List}
 use Rattle.sheet.specs.declared.Verdict.{Verdict}
@@ -8,27 +8,22 @@ use Rattle.sheet.specs.declared.Reading.the-variants.{Accepted, Refused}
 use Rattle.sheet.specs.Format.{lotCount, conditionCount, recordCount}
 use Rattle.sheet.specs.Checks.{sheetVerdict}
 
--- The number of the check that refused, 0 where none did, and three values: the place, or what the service answers.
-pub record Answer : Type 0 where
-  pub check : ℕ
-  pub first : ℕ
-  pub second : ℕ
-  pub third : ℕ
-
-abbrev pub refusal : ℕ → ℕ → Answer
-refusal check place = record { check = check; first = place; second = 0; third = 0 }
+-- A service refuses, with document 01's number of the check and its place; or it answers, with up to three values, the others 0. A service's contract
+-- equates the answer of the case that it returns, so that the case is fixed and not its numbers alone.
+pub data Answer : Type 0 where
+  refused : ℕ → ℕ → Answer
+  answered : ℕ → ℕ → ℕ → Answer
 
 -- A verdict's refusal; where it passes, the answer that follows.
 abbrev pub answerOf : Verdict → Answer → Answer
 answerOf Passes answer = answer
-answerOf (Refuses check place) answer = refusal check place
+answerOf (Refuses check place) answer = refused check place
 
 -- "the reader then answers n, m and k"
 unfoldable pub readAnswer : List ℕ → Answer
-readAnswer s =
-    answerOf (sheetVerdict s) (record { check = 0; first = lotCount s; second = conditionCount s; third = recordCount s })
+readAnswer s = answerOf (sheetVerdict s) (answered (lotCount s) (conditionCount s) (recordCount s))
 
--- The same of each case of the reader's answer.
+-- The reader's cases.
 abbrev pub readingAnswer : Reading → Answer
-readingAnswer (Accepted n m k) = record { check = 0; first = n; second = m; third = k }
-readingAnswer (Refused check place) = refusal check place
+readingAnswer (Accepted n m k) = answered n m k
+readingAnswer (Refused check place) = refused check place

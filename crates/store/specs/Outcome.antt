@@ -9,7 +9,7 @@ use Rattle.sheet.specs.declared.Verdict.{Verdict}
 use Rattle.sheet.specs.declared.Verdict.the-variants.{Passes, Refuses}
 use Rattle.sheet.specs.Format.{lotCount}
 use Rattle.sheet.specs.Conditions.{conditions}
-use Rattle.sheet.specs.Answers.{Answer, refusal}
+use Rattle.sheet.specs.Answers.{Answer, refused, answered}
 use Rattle.equality.specs.Search.{Tree, searchTree, isMet, nodeCount, metDecisions, groupingBytes}
 use Rattle.equality.specs.Evaluator.{groupingVerdict}
 use Rattle.store.specs.Records.{records, encodeAll, recordLength, capacity}
@@ -41,10 +41,10 @@ resultOf Passes capacity tree = fullOr (ltb capacity (nodeCount tree)) capacity 
 
 -- "during the search | 9 | store full | S". "Met and cannot carry the count c of records": after 1 for met and 2 for cannot.
 abbrev pub resultAnswer : Result → Answer
-resultAnswer (refusedResult check place) = refusal check place
-resultAnswer (fullResult capacity) = refusal 9 capacity
-resultAnswer (metResult tree) = record { check = 0; first = 1; second = nodeCount tree; third = 0 }
-resultAnswer (cannotResult tree) = record { check = 0; first = 2; second = nodeCount tree; third = 0 }
+resultAnswer (refusedResult check place) = refused check place
+resultAnswer (fullResult capacity) = refused 9 capacity
+resultAnswer (metResult tree) = answered 1 (nodeCount tree) 0
+resultAnswer (cannotResult tree) = answered 2 (nodeCount tree) 0
 
 -- ---- the buffers
 
