@@ -8,6 +8,7 @@ pub mod Reached
 pub mod ChainEnds
 pub mod Records
 pub mod Conditions
+pub mod Accepting
 mod Headers
 mod Formed
 mod Loops
