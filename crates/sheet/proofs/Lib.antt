@@ -9,6 +9,7 @@ pub mod ChainEnds
 pub mod Records
 pub mod Conditions
 pub mod Accepting
+pub mod CanonicalWithin
 mod Headers
 mod Formed
 mod Loops
