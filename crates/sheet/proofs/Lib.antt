@@ -10,6 +10,7 @@ pub mod Records
 pub mod Conditions
 pub mod Accepting
 pub mod CanonicalWithin
+pub mod CanonicalChains
 mod Headers
 mod Formed
 mod Loops
