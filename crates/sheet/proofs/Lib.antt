@@ -11,6 +11,7 @@ pub mod Conditions
 pub mod Accepting
 pub mod CanonicalWithin
 pub mod CanonicalChains
+pub mod CanonicalBytes
 mod Headers
 mod Formed
 mod Loops
