@@ -12,6 +12,7 @@ pub mod Accepting
 pub mod CanonicalWithin
 pub mod CanonicalChains
 pub mod CanonicalBytes
+pub mod Canonical
 mod Headers
 mod Formed
 mod Loops
