@@ -10,6 +10,11 @@ pub mod Reached
 pub mod ChainEnds
 pub mod Records
 pub mod Conditions
+pub mod Accepting
+pub mod CanonicalWithin
+pub mod CanonicalChains
+pub mod CanonicalBytes
+pub mod Canonical
 mod Headers
 mod Formed
 mod Loops
