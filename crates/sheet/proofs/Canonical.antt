@@ -9,7 +9,7 @@ use Rattle.sheet.specs.Format.{headerLength, lotCount, conditionCount, r
 use Rattle.sheet.specs.Inner.{headerAt, HasHeader}
 use Rattle.sheet.specs.Checks.{Accepted}
 use Rattle.sheet.specs.Conditions.{Term, same, apart, conditions}
-use Rattle.sheet.specs.Answers.{readAnswer}
+use Rattle.sheet.specs.Answers.{answered, readAnswer}
 use Rattle.sheet.specs.Canonical.{termRecord, chainRecords, sheetRecords, headsFrom, canonical, canonicalLength, TermWithin, Within}
 use Rattle.sheet.proofs.Ranges.{All}
 use Rattle.sheet.proofs.CanonicalWithin.{within-every}
@@ -74,7 +74,7 @@ module _ (n : ℕ) (tss : List (List Term)) (within : Within n tss) where
   canonical-conditions = laid-conditions (canonical n tss) tss count-conditions count-records laid
 
   -- and "the reader then answers n, m and k".
-  pub canonical-read : readAnswer (canonical n tss) ≡ record { check = 0; first = n; second = length tss; third = length (flatten tss) }
+  pub canonical-read : readAnswer (canonical n tss) ≡ answered n (length tss) (length (flatten tss))
   unfolding readAnswer
   canonical-read = rw (canonical-accepted, canonical-lots, count-conditions, count-records)
 
