@@ -1,6 +1,6 @@
 -- Laws of "some term of a condition is such and such" that hold whatever a condition with no term counts for.
-use mathlib.Core.Bool.{Bool, true, false, _||_, false≢true}
-use mathlib.Core.List.{List, [], _∷_}
+use mathlib.Core.Bool.{Bool, true, false, _||_, or-true, false≢true}
+use mathlib.Core.List.{List, [], _∷_, _++_}
 use mathlib.Core.Logic.{⊎-elim}
 use mathlib.Core.Path.{_≡_, refl, sym, ap, _∙_, fun-ext}
 use lib.Dec.{T}
@@ -22,6 +22,12 @@ unfolding anyTerm
 any-false q [] none = refl
 any-false q (t ∷ ts) none = rw (none .0) (any-false q ts (none .1))
 
+-- Where no term is such, none of the condition is: a condition with no term has none.
+pub some-false : (q : Term → Bool) (ts : List Term) → All (λ t. q t ≡ false) ts → someTerm q ts ≡ false
+unfolding someTerm
+some-false q [] none = refl
+some-false q (t ∷ ts) none = rw (none .0) (any-false q ts (none .1))
+
 module _ (p : Term → Bool) where
   any-none : (ts : List Term) → anyTerm p ts ≡ false → All (λ t. p t ≡ false) ts
   unfolding anyTerm
@@ -33,6 +39,17 @@ module _ (p : Term → Bool) where
   unfolding someTerm
   some-none [] e = tt
   some-none (t ∷ ts) e = let both = or-false (p t) (anyTerm p ts) e in (both .0, any-none ts (both .1))
+
+  any-here : (before : List Term) (t : Term) (after : List Term) → p t ≡ true → anyTerm p (before ++ t ∷ after) ≡ true
+  unfolding anyTerm
+  any-here [] t after e = rw e
+  any-here (u ∷ before) t after e = rw (any-here before t after e) (or-true (p u))
+
+  -- Where one term is such, some is.
+  pub some-here : (before : List Term) (t : Term) (after : List Term) → p t ≡ true → someTerm p (before ++ t ∷ after) ≡ true
+  unfolding someTerm
+  some-here [] t after e = rw e
+  some-here (u ∷ before) t after e = rw (any-here before t after e) (or-true (p u))
 
   -- Two tests that agree at each term agree on the condition.
   pub some-agrees : (q : Term → Bool) → ((t : Term) → p t ≡ q t) → (ts : List Term) → someTerm p ts ≡ someTerm q ts

@@ -1,0 +1,56 @@
+// The evaluator: whether the numbers that a grouping gives the lots meet a sheet.
+ghost use mathlib.Core.Path.{_≡_};
+ghost use mathlib.Core.Logic.{_↔_};
+ghost use Prim.Native.Nat.{ℕ, _≤_};
+ghost use lib.ListN.{length};
+ghost use Rattle.sheet.specs.Format.{recordCount};
+ghost use Rattle.sheet.specs.Conditions.{termOf, termsFrom, conditions};
+ghost use Rattle.equality.specs.Meaning.{holds, meetsCondition};
+ghost use Rattle.equality.specs.Evaluator.{numberIn, lowestUnmet, evaluateAnswer};
+ghost use Rattle.evaluator.specs.Answers.{evaluationAnswer, Evaluable};
+use sheet::Condition;
+use sheet::Lot;
+use sheet::Reading;
+use sheet::Record;
+use sheet::Term;
+
+// The evaluator's answer.
+pub enum Evaluation {
+    AllMet,
+    Unmet(Condition),
+    Refused { check: u32, place: u32 },
+}
+
+// A lot's number in a grouping.
+fn number_in(grouping: &[u8], lot: Lot) -> u8
+    requires { ⌜ (1 ≤ lot .0) × (lot .0 ≤ length (now grouping)) ⌝ }
+    ensures { λ r. ⌜ r ≡ numberIn (now (grouping .entry)) (lot .0) ⌝ }
+{
+    let i = (lot.0 - 1) as usize;
+    grouping[i]
+}
+
+// Whether a term is true.
+fn is_true(grouping: &[u8], t: Term) -> bool
+    requires { ⌜ (1 ≤ t .a .0) × (t .a .0 ≤ length (now grouping)) × (1 ≤ t .b .0) × (t .b .0 ≤ length (now grouping)) ⌝ }
+    ensures { λ r. ⌜ r ≡ holds (numberIn (now (grouping .entry))) (termOf (t .sign) (t .a .0) (t .b .0)) ⌝ }
+{
+    let same = number_in(grouping, t.a) == number_in(grouping, t.b);
+    if t.sign == 1 { same } else { !same }
+}
+
+// Whether the condition whose chain begins at a record is met. The loop leaves at the first true term; every term that it has passed is false.
+fn is_met(sheet: &[u8], m: u16, grouping: &[u8], head: Record) -> bool
+    requires { ⌜ Evaluable (now sheet) (now grouping) m × (head .0 ≤ recordCount (now sheet)) ⌝ }
+    ensures { λ r. ⌜ r ≡ meetsCondition (numberIn (now (grouping .entry))) (termsFrom (now (sheet .entry)) (head .0)) ⌝ }
+{
+    let mut at = head;
+    while at.0 != 0 {
+        let t = sheet::format::term_at(sheet, m, at);
+        if is_true(grouping, t) {
+            return true;
+        }
+        at = t.next;
+    }
+    false
+}
