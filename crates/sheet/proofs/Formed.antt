@@ -1,5 +1,5 @@
 -- Whether a record is well formed, by the values that the code has read.
-use mathlib.Core.Path.{_≡_, refl, sym, ap, _∙_}
+use mathlib.Core.Path.{_≡_, sym, _∙_}
 use mathlib.Core.Bool.{Bool, true, false, _&&_, _||_, and-false}
 use mathlib.Core.List.{List}
 use Prim.Native.Nat.{ℕ}
@@ -7,8 +7,8 @@ use lib.Dec.{eqb, leb}
 use Rattle.sheet.specs.declared.Header.{Header}
 use Rattle.sheet.specs.declared.Term.{Term}
 use Rattle.sheet.specs.Format.{spareAt}
-use Rattle.sheet.specs.Inner.{headerAt, termRecordAt}
 use Rattle.sheet.specs.Checks.{lotInRange, wellFormed}
+use Rattle.sheet.specs.Inner.{headerAt, termRecordAt}
 
 abbrev pub signKnown : ℕ → Bool
 signKnown sign = eqb sign 1 || eqb sign 2
@@ -21,11 +21,16 @@ formed h t spare =
     && (lotInRange (h .lots) (t .b .0)
     && leb (t .next .0) (h .records))))
 
--- The five tests decide, with the header h and the record t as the code has them.
-module _ (s : List ℕ) (r : ℕ) {h : Header} {t : Term} (header : h ≡ headerAt s) (term : t ≡ termRecordAt s r) where
+-- The code has read the header h, and t at record r.
+pub record HasRead (s : List ℕ) (r : ℕ) (h : Header) (t : Term) : Type 0 where
+  pub header : h ≡ headerAt s
+  pub term : t ≡ termRecordAt s r
+
+-- The five tests on these decide.
+module _ {s : List ℕ} {r : ℕ} {h : Header} {t : Term} (has : HasRead s r h t) where
   by-tests : wellFormed s r ≡ formed h t (spareAt s r)
   unfolding wellFormed
-  by-tests = rw (header, term)
+  by-tests = rw (has .header, has .term)
 
   pub bad-sign : signKnown (t .sign) ≡ false → false ≡ wellFormed s r
   bad-sign e = sym (by-tests ∙ simp e)

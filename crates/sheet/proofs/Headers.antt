@@ -1,5 +1,5 @@
 -- Checks 1 to 3, by the counts that the code has read.
-use mathlib.Core.Path.{_≡_, refl, ap}
+use mathlib.Core.Path.{_≡_, ap}
 use mathlib.Core.Bool.{not}
 use mathlib.Core.List.{List}
 use Prim.Native.Nat.{ℕ}
@@ -8,9 +8,9 @@ use lib.ListN.{length}
 use Rattle.sheet.specs.declared.Header.{Header}
 use Rattle.sheet.specs.declared.Verdict.{Verdict}
 use Rattle.sheet.specs.declared.Verdict.the-variants.{Passes}
-use Rattle.sheet.specs.Format.{headerLength, conditionCount, recordCount, mostLots, mostConditions, mostRecords, sheetLength}
-use Rattle.sheet.specs.Inner.{HasHeader, headerAt}
+use Rattle.sheet.specs.Format.{mostLots, mostConditions, mostRecords, headerLength, conditionCount, recordCount, sheetLength}
 use Rattle.sheet.specs.Checks.{orElse, refusesIf, firstRefusal, headerChecks, check1, check2, check3}
+use Rattle.sheet.specs.Inner.{headerAt, HasHeader}
 
 -- The tests of a header h and a length.
 abbrev pub headerTests : Header → ℕ → Verdict

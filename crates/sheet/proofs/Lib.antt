@@ -8,6 +8,7 @@ pub mod Reached
 pub mod ChainEnds
 pub mod Records
 pub mod Conditions
+mod Refusals
 mod Headers
 mod Formed
 mod Loops

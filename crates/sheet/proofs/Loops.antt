@@ -1,10 +1,9 @@
 -- Loops that count up and stop at the lowest number that fails: what one turn does to a check by lowestRefusal.
-use mathlib.Core.Path.{_≡_, refl, sym, ap, _∙_}
+use mathlib.Core.Path.{_≡_, sym, ap, _∙_}
 use mathlib.Core.Bool.{Bool, true, false}
-use Prim.Native.Nat.{ℕ, zero, suc, _+_, _-_, _≤_, _<_}
+use Prim.Native.Nat.{ℕ, suc, _+_, _-_, _≤_, _<_}
 use native.Mathlib.Numerals.{add-one}
 use native.Mathlib.Omega.{arith}
-use Rattle.sheet.specs.declared.Verdict.{Verdict}
 use Rattle.sheet.specs.declared.Verdict.the-variants.{Passes, Refuses}
 use Rattle.sheet.specs.Checks.{lowestRefusal}
 
@@ -47,11 +46,3 @@ module _ (check : ℕ) (fails : ℕ → Bool) (count : ℕ) where
             most = omega arith;
             rest = i .rest ∙ rw (one-more, e, less, add-one);
           }
-
--- The check depends only on which of its numbers fail.
-pub same-refusal : (check : ℕ) (f g : ℕ → Bool) (count from : ℕ) → ((n : ℕ) → from ≤ n → n < from + count → f n ≡ g n)
-    → lowestRefusal check f count from ≡ lowestRefusal check g count from
-unfolding lowestRefusal
-same-refusal check f g zero from same = refl
-same-refusal check f g (suc count) from same =
-    rw (same from (omega arith) (omega arith), same-refusal check f g count (suc from) (λ n low high. same n (omega arith) (omega arith)))

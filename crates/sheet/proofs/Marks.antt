@@ -48,7 +48,8 @@ pub mark : {marks seen : List ℕ} {r : ℕ} → 1 ≤ r → r ≤ length marks 
 unfolding member
 mark {marks} {seen} {r} least most m = record { stand = λ q low high. go q low (rw length-set at high) (eqb q r) refl }
   where
-    go : (q : ℕ) → 1 ≤ q → q ≤ length marks → (b : Bool) → eqb q r ≡ b → isMarked (set marks (r - 1) 1) q ≡ (eqb q r || member q seen)
+    go : (q : ℕ) → 1 ≤ q → q ≤ length marks → (b : Bool) → eqb q r ≡ b
+        → isMarked (set marks (r - 1) 1) q ≡ (eqb q r || member q seen)
     go q low high true e =
         rw (e, eqb-true q r e) (eq-eqb _ _ (getD-set-same marks (r - 1) 1 0 (omega arith)))
     go q low high false e =

@@ -1,47 +1,19 @@
 -- What the bytes are known to be, once checks have passed; and the checks' order.
-use mathlib.Core.Path.{_≡_, refl, sym, ap, _∙_}
+use mathlib.Core.Path.{_≡_, refl, sym, _∙_}
 use mathlib.Core.Bool.{Bool, true, false, not, false≢true, and-false}
-use mathlib.Core.List.{List, []}
-use Prim.Native.Nat.{ℕ, zero, suc, _+_, _≤_, _<_}
+use mathlib.Core.List.{List}
+use Prim.Native.Nat.{ℕ, _≤_}
 use native.Mathlib.Omega.{arith}
-use borrow.Author.Tests.{ltb-false, leb-true, eqb-true, eqb-false, not-false}
+use borrow.Author.Tests.{ltb-false, leb-true, eqb-true, not-false}
 use lib.Dec.{ltb, leb, eqb}
 use lib.ListN.{length}
 use Rattle.sheet.specs.declared.Header.{Header}
-use Rattle.sheet.specs.declared.Verdict.{Verdict}
-use Rattle.sheet.specs.declared.Verdict.the-variants.{Passes, Refuses}
-use Rattle.sheet.specs.Format.{headerLength, mostLots, mostConditions, mostRecords, sheetLength, lotCount, conditionCount, recordCount, headAt, nextAt}
-use Rattle.sheet.specs.Inner.{HasHeader, headerAt}
-use Rattle.sheet.specs.Checks.{orElse, refusesIf, firstRefusal, lowestRefusal, headerChecks, check1, check2, check3, check4, check5, check6, check7, wellFormed, sheetChecks, sheetVerdict}
-use Rattle.sheet.specs.Inner.{Walkable}
-
--- ---- verdicts
-
-both-pass : (v w : Verdict) → orElse v w ≡ Passes → (v ≡ Passes) × (w ≡ Passes)
-both-pass Passes w e = (refl, e)
-both-pass (Refuses check place) w e = let z : _≡_ {A = ℕ} 0 1 = cc in absurd (omega arith)
-
-not-so : (b : Bool) (check place : ℕ) → refusesIf b check place ≡ Passes → b ≡ false
-not-so true check place e = let z : _≡_ {A = ℕ} 0 1 = cc in absurd (omega arith)
-not-so false check place e = refl
-
-pub passed-on : {v w : Verdict} → v ≡ Passes → orElse v w ≡ w
-passed-on e = rw e
-
-pub refused-here : {v u : Verdict} (w : Verdict) {check place : ℕ} → v ≡ u → v ≡ Refuses check place → v ≡ orElse u w
-refused-here w same e = rw (← same, e)
-
-none-fails : (check : ℕ) (fails : ℕ → Bool) (count from : ℕ) → lowestRefusal check fails count from ≡ Passes
-    → (n : ℕ) → from ≤ n → n < from + count → fails n ≡ false
-unfolding lowestRefusal
-none-fails check fails zero from e n low high = absurd (omega arith)
-none-fails check fails (suc count) from e n low high =
-    let both = both-pass (refusesIf (fails from) check from) (lowestRefusal check fails count (suc from)) e in
-    go (none-fails check fails count (suc from) (both .1) n) (not-so (fails from) check from (both .0)) (eqb n from) refl
-  where
-    go : (suc from ≤ n → n < suc from + count → fails n ≡ false) → fails from ≡ false → (b : Bool) → eqb n from ≡ b → fails n ≡ false
-    go later here true same = ap fails (eqb-true n from same) ∙ here
-    go later here false other = later (omega (arith, eqb-false n from other)) (omega arith)
+use Rattle.sheet.specs.declared.Verdict.the-variants.{Passes}
+use Rattle.sheet.specs.Format.{mostLots, mostConditions, mostRecords, headerLength, lotCount, conditionCount, recordCount, sheetLength, headAt, nextAt}
+use Rattle.sheet.specs.Checks.{orElse, refusesIf, firstRefusal, wellFormed, headerChecks, sheetChecks, sheetVerdict}
+use Rattle.sheet.specs.Checks.{check1, check2, check3, check4, check5, check6, check7}
+use Rattle.sheet.specs.Inner.{headerAt, HasHeader, Walkable}
+use Rattle.sheet.proofs.Refusals.{or-end, or-or, both-pass, not-so, none-fails}
 
 -- ---- checks 1 to 3
 
@@ -49,18 +21,19 @@ module _ (s : List ℕ) (e : firstRefusal (headerChecks s) ≡ Passes) where
   parts : (headerLength ≤ length s) × HasHeader s (headerAt s)
   unfolding firstRefusal check1 check2 check3
   parts =
-      let one = both-pass (check1 s) (orElse (check2 s) (orElse (check3 s) Passes)) e in
-      let two = both-pass (check2 s) (orElse (check3 s) Passes) (one .1) in
-      let three = both-pass (check3 s) Passes (two .1) in
+      let one = both-pass (check1 s) _ e in
+      let two = both-pass (check2 s) _ (one .1) in
+      let three = both-pass (check3 s) _ (two .1) in
       let lots = both-pass (refusesIf (ltb mostLots (lotCount s)) 2 1) _ (two .0) in
-      let rest = both-pass (refusesIf (ltb mostConditions (conditionCount s)) 2 2) (refusesIf (ltb mostRecords (recordCount s)) 2 3) (lots .1) in (
+      let rest = both-pass (refusesIf (ltb mostConditions (conditionCount s)) 2 2) _ (lots .1) in
+      let wrong = not (eqb (length s) (sheetLength (conditionCount s) (recordCount s))) in (
         ltb-false _ _ (not-so (ltb (length s) headerLength) 1 0 (one .0)),
         record {
           counts = refl;
           lots = ltb-false _ _ (not-so (ltb mostLots (lotCount s)) 2 1 (lots .0));
           conditions = ltb-false _ _ (not-so (ltb mostConditions (conditionCount s)) 2 2 (rest .0));
           records = ltb-false _ _ (not-so (ltb mostRecords (recordCount s)) 2 3 (rest .1));
-          whole = eqb-true _ _ (not-false _ (not-so (not (eqb (length s) (sheetLength (conditionCount s) (recordCount s)))) 3 0 (three .0)));
+          whole = eqb-true _ _ (not-false _ (not-so wrong 3 0 (three .0)));
         },
       )
 
@@ -92,19 +65,11 @@ module _ (s : List ℕ) where
   next-within e r low high =
       next-known r (not-false _ (none-fails 5 (λ r. not (wellFormed s r)) (recordCount s) 1 e r low (omega arith)))
 
-  pub walkable : {h : Header} → HasHeader s h → check4 s ≡ Passes → check5 s ≡ Passes → {marks : List ℕ} → length marks ≡ recordCount s
-      → Walkable s h marks
+  pub walkable : {h : Header} → HasHeader s h → check4 s ≡ Passes → check5 s ≡ Passes
+      → {marks : List ℕ} → length marks ≡ recordCount s → Walkable s h marks
   walkable has four five room = record { header = has; room = room; heads = head-within four; nexts = next-within five }
 
 -- ---- the order of the checks
-
-or-end : (v : Verdict) → orElse v Passes ≡ v
-or-end Passes = refl
-or-end (Refuses check place) = refl
-
-or-or : (u v w : Verdict) → orElse (orElse u v) w ≡ orElse u (orElse v w)
-or-or Passes v w = refl
-or-or (Refuses check place) v w = refl
 
 pub in-order : (s : List ℕ)
     → sheetVerdict s ≡ orElse (firstRefusal (headerChecks s)) (orElse (check4 s) (orElse (check5 s) (orElse (check6 s) (check7 s))))

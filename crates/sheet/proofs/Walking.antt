@@ -1,4 +1,4 @@
--- A walk along one chain, against the list of the records that it has seen.
+-- The walk along one chain, along all chains, and what checks 6 and 7 make of it.
 use mathlib.Core.Path.{_≡_, refl, sym, ap, _∙_}
 use mathlib.Core.Bool.{true, false, not}
 use mathlib.Core.List.{List, [], _∷_}
@@ -6,32 +6,33 @@ use Prim.Native.Nat.{ℕ, zero, suc, _+_, _-_, _≤_, _<_}
 use native.Mathlib.Numerals.{add-one, sub-one}
 use native.Mathlib.Omega.{arith}
 use borrow.Author.Tests.{eq-eqb, ne-eqb}
-use lib.ListN.{length, getD, set}
+use lib.ListN.{length, getD, set, length-set}
 use Rattle.sheet.specs.declared.Verdict.{Verdict}
 use Rattle.sheet.specs.declared.Verdict.the-variants.{Passes, Refuses}
 use Rattle.sheet.specs.Format.{conditionCount, recordCount, headAt, nextAt}
-use Rattle.sheet.specs.Checks.{Walk, reached, twice, member, walkChain, walkChains, walked, chainsVerdict, reachedBy, orElse, lowestRefusal, check6, check7}
+use Rattle.sheet.specs.Checks.{Walk, reached, twice, member, walkChain, walkChains, walked, chainsVerdict, reachedBy}
+use Rattle.sheet.specs.Checks.{orElse, lowestRefusal, check6, check7}
 use Rattle.sheet.specs.Inner.{Marks, isMarked, oneChain, WalkedTo, unmarkedVerdict}
-use Rattle.sheet.proofs.Loops.{same-refusal}
+use Rattle.sheet.proofs.Refusals.{not-both, same-refusal}
 use Rattle.sheet.proofs.Marks.{unmarked, unmarked-le, unmarked-falls, mark}
 
 -- ---- the steps of walkChain
 
 module _ (s : List ℕ) where
-  pub walk-end : (fuel : ℕ) (seen : List ℕ) {r : ℕ} → r ≡ 0 → walkChain s fuel seen r ≡ reached seen
+  walk-end : (fuel : ℕ) (seen : List ℕ) {r : ℕ} → r ≡ 0 → walkChain s fuel seen r ≡ reached seen
   unfolding walkChain
   walk-end zero seen {r} e = refl
   walk-end (suc n) seen {r = zero} e = refl
   walk-end (suc n) seen {r = suc r} e = absurd (omega arith)
 
   module _ (seen : List ℕ) where
-    pub walk-hit : (fuel : ℕ) {r : ℕ} → 0 < fuel → (r ≡ 0 → ⊥) → member r seen ≡ true → walkChain s fuel seen r ≡ twice r
+    walk-hit : (fuel : ℕ) {r : ℕ} → 0 < fuel → (r ≡ 0 → ⊥) → member r seen ≡ true → walkChain s fuel seen r ≡ twice r
     unfolding walkChain
     walk-hit zero {r} h f e = absurd (omega arith)
     walk-hit (suc n) {r = zero} h f e = absurd (f refl)
     walk-hit (suc n) {r = suc r} h f e = simp e
 
-    pub walk-more : (fuel : ℕ) {r : ℕ} → 0 < fuel → (r ≡ 0 → ⊥) → member r seen ≡ false
+    walk-more : (fuel : ℕ) {r : ℕ} → 0 < fuel → (r ≡ 0 → ⊥) → member r seen ≡ false
         → walkChain s fuel seen r ≡ walkChain s (fuel - 1) (r ∷ seen) (nextAt s r)
     unfolding walkChain
     walk-more zero {r} h f e = absurd (omega arith)
@@ -54,37 +55,56 @@ pub record Walking (s marks₀ : List ℕ) (head : ℕ) (marks : List ℕ) (r : 
   pub within : r ≤ recordCount s
   pub ahead : (seen : List ℕ) → Marks marks₀ seen → Ahead s marks r (oneChain s seen head)
 
-module _ (s marks : List ℕ) where
-  pub first : (head : ℕ) → length marks ≡ recordCount s → (seen : List ℕ) → Marks marks seen
-      → Ahead s marks head (oneChain s seen head)
-  first head room seen stand =
-      record {
-        fuel = suc (recordCount s);
-        seen = seen;
-        stand = stand;
-        enough = omega (arith, unmarked-le marks);
-        rest = refl;
-      }
-
-  module _ {r : ℕ} {walk : Walk} (a : Ahead s marks r walk) where
-    pub ended : r ≡ 0 → WalkedTo walk Passes marks
-    ended e = rw (a .rest ∙ walk-end s (a .fuel) (a .seen) e) (refl, a .stand)
-
-    module _ (some : r ≡ 0 → ⊥) (within : r ≤ length marks) where
-      pub hit : getD marks (r - 1) 0 ≡ 1 → WalkedTo walk (Refuses 6 r) marks
-      hit e =
-          let known : member r (a .seen) ≡ true = sym (a .stand .stand r (omega arith) within) ∙ eq-eqb _ _ e in
-          rw (a .rest ∙ walk-hit s (a .seen) (a .fuel) (omega (arith, a .enough)) some known) refl
-
-      pub more : (getD marks (r - 1) 0 ≡ 1 → ⊥) → Ahead s (set marks (r - 1) 1) (nextAt s r) walk
-      more f =
-          let fresh : member r (a .seen) ≡ false = sym (a .stand .stand r (omega arith) within) ∙ ne-eqb _ _ f in
+pub begun : (s marks : List ℕ) (head : ℕ) → length marks ≡ recordCount s → head ≤ recordCount s → Walking s marks head marks head
+begun s marks head room within =
+    record {
+      room = room;
+      within = within;
+      ahead = λ seen stand.
           record {
-            fuel = a .fuel - 1;
-            seen = r ∷ a .seen;
-            stand = mark (omega arith) within (a .stand);
-            enough = omega (arith, unmarked-falls marks (r - 1) (omega arith) f, a .enough);
-            rest = a .rest ∙ walk-more s (a .seen) (a .fuel) (omega (arith, a .enough)) some fresh;
+            fuel = suc (recordCount s);
+            seen = seen;
+            stand = stand;
+            enough = omega (arith, unmarked-le marks);
+            rest = refl;
+          };
+    }
+
+module _ {s marks₀ : List ℕ} {head : ℕ} {marks : List ℕ} {r : ℕ} (w : Walking s marks₀ head marks r) where
+  pub ended : r ≡ 0 → (seen : List ℕ) → Marks marks₀ seen → WalkedTo (oneChain s seen head) Passes marks
+  ended e seen stand =
+      let a = w .ahead seen stand in
+      rw (a .rest ∙ walk-end s (a .fuel) (a .seen) e) (refl, a .stand)
+
+  module _ (some : r ≡ 0 → ⊥) where
+    among : r ≤ length marks
+    among = omega (arith, w .room, w .within)
+
+    pub hit : getD marks (r - 1) 0 ≡ 1 → (seen : List ℕ) → Marks marks₀ seen → WalkedTo (oneChain s seen head) (Refuses 6 r) marks
+    hit e seen stand =
+        let a = w .ahead seen stand in
+        let known : member r (a .seen) ≡ true = sym (a .stand .stand r (omega arith) among) ∙ eq-eqb _ _ e in
+        rw (a .rest ∙ walk-hit s (a .seen) (a .fuel) (omega (arith, a .enough)) some known) refl
+
+    module _ (f : getD marks (r - 1) 0 ≡ 1 → ⊥) where
+      pub fewer : unmarked (set marks (r - 1) 1) < unmarked marks
+      fewer = unmarked-falls marks (r - 1) (omega (arith, among)) f
+
+      pub more : nextAt s r ≤ recordCount s → Walking s marks₀ head (set marks (r - 1) 1) (nextAt s r)
+      more linked =
+          record {
+            room = length-set marks (r - 1) 1 ∙ w .room;
+            within = linked;
+            ahead = λ seen stand.
+                let a = w .ahead seen stand in
+                let fresh : member r (a .seen) ≡ false = sym (a .stand .stand r (omega arith) among) ∙ ne-eqb _ _ f in
+                record {
+                  fuel = a .fuel - 1;
+                  seen = r ∷ a .seen;
+                  stand = mark (omega arith) among (a .stand);
+                  enough = omega (arith, fewer, a .enough);
+                  rest = a .rest ∙ walk-more s (a .seen) (a .fuel) (omega (arith, a .enough)) some fresh;
+                };
           }
 
 -- ---- the chains of all conditions
@@ -98,75 +118,74 @@ pub record Chaining (s marks : List ℕ) (c : ℕ) : Type 0 where
   pub stand : Marks marks seen
   pub rest : walked s ≡ walkChains s (conditionCount s + 1 - c) c (reached seen)
 
-module _ (s : List ℕ) where
-  pub none-yet : {marks : List ℕ} → length marks ≡ recordCount s → Marks marks [] → Chaining s marks 1
-  unfolding walked
-  none-yet room stand =
-      record {
-        room = room;
-        least = omega arith;
-        most = omega arith;
-        seen = [];
-        stand = stand;
-        rest = ap (λ (n : ℕ). walkChains s n 1 (reached [])) (omega arith);
-      }
+pub none-yet : (s : List ℕ) {marks : List ℕ} → length marks ≡ recordCount s → Marks marks [] → Chaining s marks 1
+unfolding walked
+none-yet s room stand =
+    record {
+      room = room;
+      least = omega arith;
+      most = omega arith;
+      seen = [];
+      stand = stand;
+      rest = ap (λ (n : ℕ). walkChains s n 1 (reached [])) (omega arith);
+    }
 
-  -- Once a record is reached a second time, the chains that are left change nothing.
-  stays : (count c r : ℕ) → walkChains s count c (twice r) ≡ twice r
+-- Once a record is reached a second time, the chains that are left change nothing.
+stays : (s : List ℕ) (count c r : ℕ) → walkChains s count c (twice r) ≡ twice r
+unfolding walkChains
+stays s zero c r = refl
+stays s (suc n) c r = refl
+
+module _ {s marks : List ℕ} {c : ℕ} (i : Chaining s marks c) where
+  pub all-walked : conditionCount s < c → WalkedTo (walked s) Passes marks
   unfolding walkChains
-  stays zero c r = refl
-  stays (suc n) c r = refl
+  all-walked past =
+      let none : conditionCount s + 1 - c ≡ 0 = omega (arith, i .most) in
+      rw (i .rest, none) (refl, i .stand)
 
-  module _ {marks : List ℕ} {c : ℕ} (i : Chaining s marks c) where
-    pub all-walked : conditionCount s < c → WalkedTo (walked s) Passes marks
+  module _ (within : c ≤ conditionCount s) where
+    -- The chain of condition c is walked next.
+    next-chain : walked s ≡ walkChains s (conditionCount s - c) (c + 1) (oneChain s (i .seen) (headAt s c))
     unfolding walkChains
-    all-walked past =
-        let none : conditionCount s + 1 - c ≡ 0 = omega (arith, i .most) in
-        rw (i .rest, none) (refl, i .stand)
+    next-chain =
+        let one-more : conditionCount s + 1 - c ≡ suc (conditionCount s - c) = omega arith in
+        i .rest ∙ rw (one-more, add-one)
 
-    module _ (within : c ≤ conditionCount s) where
-      -- The chain of condition c is walked next.
-      next-chain : walked s ≡ walkChains s (conditionCount s - c) (c + 1) (oneChain s (i .seen) (headAt s c))
-      unfolding walkChains
-      next-chain =
-          let one-more : conditionCount s + 1 - c ≡ suc (conditionCount s - c) = omega arith in
-          i .rest ∙ rw (one-more, add-one)
+    -- Where it refuses, so does the whole walk, with whatever marks.
+    pub chain-refused : {v : Verdict} {check place : ℕ} → v ≡ Refuses check place → (after : List ℕ)
+        → WalkedTo (oneChain s (i .seen) (headAt s c)) v after → WalkedTo (walked s) v after
+    chain-refused {v} {check} {place} told after = go (oneChain s (i .seen) (headAt s c)) next-chain
+      where
+        go : (w : Walk) → walked s ≡ walkChains s (conditionCount s - c) (c + 1) w → WalkedTo w v after → WalkedTo (walked s) v after
+        go (reached seen) e same = absurd (not-both (same .0) told)
+        go (twice r) e same = rw (e, stays) same
 
-      -- Where it refuses, so does the whole walk, with whatever marks.
-      pub chain-refused : (v : Verdict) {check place : ℕ} → v ≡ Refuses check place → (after : List ℕ)
-          → WalkedTo (oneChain s (i .seen) (headAt s c)) v after → WalkedTo (walked s) v after
-      chain-refused v {check} {place} told after = go (oneChain s (i .seen) (headAt s c)) next-chain
-        where
-          go : (w : Walk) → walked s ≡ walkChains s (conditionCount s - c) (c + 1) w → WalkedTo w v after → WalkedTo (walked s) v after
-          go (reached seen) e (same, stand) = let z : _≡_ {A = ℕ} 0 1 = cc in absurd (omega arith)
-          go (twice r) e same = rw (e, stays) same
-
-      pub chain-passed : (v : Verdict) → v ≡ Passes → (after : List ℕ) → length after ≡ recordCount s
-          → WalkedTo (oneChain s (i .seen) (headAt s c)) v after → Chaining s after (c + 1)
-      chain-passed v told after room = go (oneChain s (i .seen) (headAt s c)) next-chain
-        where
-          go : (w : Walk) → walked s ≡ walkChains s (conditionCount s - c) (c + 1) w → WalkedTo w v after → Chaining s after (c + 1)
-          go (reached seen) e same =
-              record {
-                room = room;
-                least = omega arith;
-                most = omega arith;
-                seen = seen;
-                stand = same .1;
-                rest = e ∙ ap (λ (n : ℕ). walkChains s n (c + 1) (reached seen)) (omega arith);
-              }
-          go (twice r) e same = let z : _≡_ {A = ℕ} 0 1 = cc in absurd (omega arith)
+    pub chain-passed : {v : Verdict} → v ≡ Passes → {after : List ℕ} → length after ≡ recordCount s
+        → WalkedTo (oneChain s (i .seen) (headAt s c)) v after → Chaining s after (c + 1)
+    chain-passed {v} told {after} room = go (oneChain s (i .seen) (headAt s c)) next-chain
+      where
+        go : (w : Walk) → walked s ≡ walkChains s (conditionCount s - c) (c + 1) w → WalkedTo w v after → Chaining s after (c + 1)
+        go (reached seen) e same =
+            record {
+              room = room;
+              least = omega arith;
+              most = omega arith;
+              seen = seen;
+              stand = same .1;
+              rest = e ∙ ap (λ (n : ℕ). walkChains s n (c + 1) (reached seen)) (omega arith);
+            }
+        go (twice r) e same = absurd (not-both told same)
 
 -- ---- checks 6 and 7, from what the walk along all chains says
 
-module _ (s : List ℕ) (v : Verdict) where
+module _ (s : List ℕ) {v : Verdict} where
   pub walk-refused : {check place : ℕ} → v ≡ Refuses check place → (marks : List ℕ) → WalkedTo (walked s) v marks
       → v ≡ orElse (check6 s) (check7 s)
   unfolding check6
   walk-refused {check} {place} told marks = go (walked s) refl
     where
       go : (w : Walk) → walked s ≡ w → WalkedTo w v marks → v ≡ orElse (chainsVerdict (walked s)) (check7 s)
-      go (reached seen) e (same, stand) = let z : _≡_ {A = ℕ} 0 1 = cc in absurd (omega arith)
+      go (reached seen) e same = absurd (not-both (same .0) told)
       go (twice r) e same = rw e same
 
   pub walk-passed : v ≡ Passes → (marks : List ℕ) → length marks ≡ recordCount s → WalkedTo (walked s) v marks
@@ -175,9 +194,10 @@ module _ (s : List ℕ) (v : Verdict) where
   walk-passed told marks room = go (walked s) refl
     where
       go : (w : Walk) → walked s ≡ w → WalkedTo w v marks
-          → unmarkedVerdict marks ≡ orElse (chainsVerdict (walked s)) (lowestRefusal 7 (λ r. not (member r (reachedBy (walked s)))) (recordCount s) 1)
+          → unmarkedVerdict marks
+          ≡ orElse (chainsVerdict (walked s)) (lowestRefusal 7 (λ r. not (member r (reachedBy (walked s)))) (recordCount s) 1)
       go (reached seen) e same =
           rw (e, room)
           (same-refusal 7 (λ r. not (isMarked marks r)) (λ r. not (member r seen)) (recordCount s) 1
           (λ r low high. ap not (same .1 .stand r low (omega arith))))
-      go (twice r) e same = let z : _≡_ {A = ℕ} 0 1 = cc in absurd (omega arith)
+      go (twice r) e same = absurd (not-both told same)

@@ -1,3 +1,5 @@
+-- `sheet::checks::heads` meets its contract. The loop's invariant: no head before the present condition is above k.
+-- The measure is how many conditions are left.
 use borrow.Author.Needs.{needs}
 use borrow.Author.Tests.{lt-ltb, le-ltb}
 use mathlib.Core.Bool.{Bool}
@@ -11,9 +13,6 @@ use Rattle.sheet.proofs.Headers.{conditions-counted, records-counted}
 use Rattle.sheet.proofs.Loops.{Counting, start, end, refused, passed}
 use Rattle.sheet.proofs.checks.heads.Statement.{statement}
 use Rattle.sheet.proofs.checks.heads.Tie as tie
-use Rattle.sheet.proofs.checks.heads.Reads as reads
-use Rattle.sheet.proofs.checks.heads.Lts as lts
-use Rattle.sheet.proofs.format.head_at.Reads as head-at-reads
 
 abbrev aboveRecords : List ℕ → ℕ → Bool
 aboveRecords s c = ltb (recordCount s) (headAt s c)
@@ -24,25 +23,21 @@ Inv-loop sheet h m c₀ c = Counting 4 (aboveRecords sheet) (conditionCount shee
 abbrev μ-loop : tie.MeasureT-loop
 μ-loop sheet h m c₀ c = m + 1 - c
 
--- src/checks.rt:45:5
 loop-holds : tie.Need-loop-holds Inv-loop μ-loop
 loop-holds c =
     let s : List ℕ = c .before .args .sheet .now in
     start 4 (aboveRecords s) (conditionCount s)
 
--- src/checks.rt:46:13
 head-at-requires : tie.Need-head-at-requires Inv-loop μ-loop
 head-at-requires c κs =
     let a = c .before .before .before in
     omega (arith, conditions-counted (a .args .sheet .now) (a .pre))
 
--- src/checks.rt:48:40
 cast-t8 : tie.Need-cast-t8 Inv-loop μ-loop
 cast-t8 c =
     let a = c .before .before .before .before .before .before .before in
     omega (arith, conditions-counted (a .args .sheet .now) (a .pre))
 
--- src/checks.rt:48:13
 returns : tie.Need-returns Inv-loop μ-loop
 unfolding check4
 returns c =
@@ -54,17 +49,14 @@ returns c =
     (omega (arith, conditions-counted s (a .pre)))
     (lt-ltb (recordCount s) (headAt s (l .loop .c)) (omega (arith, records-counted s (a .pre), b .head-at .ensures)))
 
--- src/checks.rt:50:9
 add-c : tie.Need-add-c Inv-loop μ-loop
 add-c c =
     let a = c .before .before .before .before .before .before .before in
     omega (arith, conditions-counted (a .args .sheet .now) (a .pre))
 
--- src/checks.rt:45:5
 loop-less : tie.Need-loop-less Inv-loop μ-loop
 loop-less c = search needs
 
--- src/checks.rt:45:5
 loop-again : tie.Need-loop-again Inv-loop μ-loop
 loop-again c =
     let b = c .before .before .before in
@@ -75,7 +67,6 @@ loop-again c =
     (omega (arith, conditions-counted s (a .pre)))
     (le-ltb (recordCount s) (headAt s (l .loop .c)) (omega (arith, records-counted s (a .pre), b .head-at .ensures)))
 
--- src/checks.rt:39:1
 returns-2 : tie.Need-returns-2 Inv-loop μ-loop
 unfolding check4
 returns-2 c =

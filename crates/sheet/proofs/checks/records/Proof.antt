@@ -1,3 +1,5 @@
+-- `sheet::checks::records` meets its contract. The loop's invariant: each record before the present one is well formed.
+-- The measure is how many records are left.
 use borrow.Author.Needs.{needs}
 use mathlib.Core.Path.{sym, ap, _∙_}
 use mathlib.Core.Bool.{Bool, not}
@@ -10,9 +12,6 @@ use Rattle.sheet.proofs.Headers.{conditions-counted, records-counted}
 use Rattle.sheet.proofs.Loops.{Counting, start, end, refused, passed}
 use Rattle.sheet.proofs.checks.records.Statement.{statement}
 use Rattle.sheet.proofs.checks.records.Tie as tie
-use Rattle.sheet.proofs.checks.records.Reads as reads
-use Rattle.sheet.proofs.checks.records.Lts as lts
-use Rattle.sheet.proofs.checks.well_formed.Reads as well-formed-reads
 
 abbrev badlyFormed : List ℕ → ℕ → Bool
 badlyFormed s r = not (wellFormed s r)
@@ -23,13 +22,11 @@ Inv-loop sheet h k r₀ r = Counting 5 (badlyFormed sheet) (recordCount sheet) r
 abbrev μ-loop : tie.MeasureT-loop
 μ-loop sheet h k r₀ r = k + 1 - r
 
--- src/checks.rt:62:5
 loop-holds : tie.Need-loop-holds Inv-loop μ-loop
 loop-holds c =
     let s : List ℕ = c .before .args .sheet .now in
     start 5 (badlyFormed s) (recordCount s)
 
--- src/checks.rt:63:13
 well-formed-requires : tie.Need-well-formed-requires Inv-loop μ-loop
 well-formed-requires c κs =
     let a = c .before .before .before in
@@ -42,13 +39,11 @@ well-formed-requires c κs =
       },
     )
 
--- src/checks.rt:64:40
 cast-t8 : tie.Need-cast-t8 Inv-loop μ-loop
 cast-t8 c =
     let a = c .before .before .before .before .before in
     omega (arith, records-counted (a .args .sheet .now) (a .pre))
 
--- src/checks.rt:64:13
 returns : tie.Need-returns Inv-loop μ-loop
 unfolding check5
 returns c =
@@ -59,17 +54,14 @@ returns c =
     (omega (arith, records-counted s (a .pre)))
     (ap not (sym (c .before .well-formed .ensures)) ∙ c .if1 .taken)
 
--- src/checks.rt:66:9
 add-r : tie.Need-add-r Inv-loop μ-loop
 add-r c =
     let a = c .before .before .before .before .before in
     omega (arith, records-counted (a .args .sheet .now) (a .pre))
 
--- src/checks.rt:62:5
 loop-less : tie.Need-loop-less Inv-loop μ-loop
 loop-less c = search needs
 
--- src/checks.rt:62:5
 loop-again : tie.Need-loop-again Inv-loop μ-loop
 loop-again c =
     let l = c .before .before .before in
@@ -79,7 +71,6 @@ loop-again c =
     (omega (arith, records-counted s (a .pre)))
     (ap not (sym (c .before .well-formed .ensures)) ∙ c .if1 .left)
 
--- src/checks.rt:56:1
 returns-2 : tie.Need-returns-2 Inv-loop μ-loop
 unfolding check5
 returns-2 c =
