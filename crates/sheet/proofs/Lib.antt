@@ -1,4 +1,5 @@
 pub mod Verdicts
+pub mod Loops
 pub mod Times
 pub mod Ranges
 pub mod Distinct
@@ -8,10 +9,6 @@ pub mod Reached
 pub mod ChainEnds
 pub mod Records
 pub mod Conditions
-mod Refusals
-mod Headers
-mod Formed
-mod Loops
+mod Tests
 mod Marks
 mod Walking
-mod Passed

@@ -13,7 +13,7 @@ use Rattle.sheet.specs.Format.{conditionCount, recordCount, headAt, next
 use Rattle.sheet.specs.Checks.{Walk, reached, twice, member, walkChain, walkChains, walked, chainsVerdict, reachedBy}
 use Rattle.sheet.specs.Checks.{orElse, lowestRefusal, check6, check7}
 use Rattle.sheet.specs.Inner.{Marks, isMarked, oneChain, WalkedTo, unmarkedVerdict}
-use Rattle.sheet.proofs.Refusals.{not-both, same-refusal}
+use Rattle.sheet.proofs.Verdicts.{not-both, lowest-agrees}
 use Rattle.sheet.proofs.Marks.{unmarked, unmarked-le, unmarked-falls, mark}
 
 -- ---- the steps of walkChain
@@ -198,6 +198,6 @@ module _ (s : List ℕ) {v : Verdict} where
           ≡ orElse (chainsVerdict (walked s)) (lowestRefusal 7 (λ r. not (member r (reachedBy (walked s)))) (recordCount s) 1)
       go (reached seen) e same =
           rw (e, room)
-          (same-refusal 7 (λ r. not (isMarked marks r)) (λ r. not (member r seen)) (recordCount s) 1
+          (lowest-agrees 7 (λ r. not (isMarked marks r)) (λ r. not (member r seen)) (recordCount s) 1
           (λ r low high. ap not (same .1 .stand r low (omega arith))))
       go (twice r) e same = absurd (not-both told same)

@@ -7,8 +7,8 @@ use Rattle.sheet.specs.declared.Verdict.{Verdict}
 use Rattle.sheet.specs.declared.Verdict.the-variants.{Passes}
 use Rattle.sheet.specs.Checks.{orElse, firstRefusal, headerChecks, check4, check5, check6, check7, sheetVerdict}
 use Rattle.sheet.specs.Inner.{HasHeader}
-use Rattle.sheet.proofs.Refusals.{passed-on, refused-here}
-use Rattle.sheet.proofs.Passed.{long-enough, has-header, in-order}
+use Rattle.sheet.proofs.Verdicts.{passed-on, refused-here}
+use Rattle.sheet.proofs.Accepted.{in-order, header-whole, header-passed}
 use Rattle.sheet.proofs.first_refusal.Statement.{statement}
 use Rattle.sheet.proofs.first_refusal.Tie as tie
 
@@ -36,7 +36,7 @@ counted : (c : tie.After-enum-told2) → firstRefusal (headerChecks (bytes c)) �
 counted c = sym (c .before .before .header .ensures) ∙ c .enum-told2 .given .1
 
 has : (c : tie.After-header-of) → HasHeader (bytes (c .before)) (c .header-of .result)
-has c = has-header (bytes (c .before)) (counted (c .before)) (c .header-of .ensures)
+has c = rw (c .header-of .ensures) (header-passed (bytes (c .before)) (counted (c .before)))
 
 headed : (c : tie.After-enum-told4) → check4 (bytes4 c) ≡ Passes
 headed c = sym (c .before .before .heads .ensures) ∙ c .enum-told4 .given .1
@@ -69,7 +69,7 @@ enum-told-2 : tie.Need-enum-told-2
 enum-told-2 c = search needs
 
 header-of-requires : tie.Need-header-of-requires
-header-of-requires c κs = long-enough (bytes c) (counted c)
+header-of-requires c κs = header-whole (header-passed (bytes c) (counted c))
 
 heads-requires : tie.Need-heads-requires
 heads-requires c κs = has c

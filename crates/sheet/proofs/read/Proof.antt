@@ -4,7 +4,7 @@ use mathlib.Core.Path.{sym, _∙_}
 use mathlib.Core.List.{List}
 use Prim.Native.Nat.{ℕ}
 use Rattle.sheet.specs.Answers.{readAnswer}
-use Rattle.sheet.proofs.Passed.{long-enough, header-passed}
+use Rattle.sheet.proofs.Accepted.{header-whole, sound}
 use Rattle.sheet.proofs.read.Statement.{statement}
 use Rattle.sheet.proofs.read.Tie as tie
 
@@ -21,7 +21,7 @@ header-of-requires : tie.Need-header-of-requires
 header-of-requires c κs =
     let v = c .before .before in
     let s : List ℕ = v .before .before .args .sheet .now in
-    long-enough s (header-passed s (sym (v .first-refusal .ensures) ∙ c .enum-told .given .1))
+    header-whole (sound s (sym (v .first-refusal .ensures) ∙ c .enum-told .given .1) .header)
 
 returns : tie.Need-returns
 unfolding readAnswer

@@ -4,14 +4,13 @@ use mathlib.Core.Path.{sym, _∙_}
 use mathlib.Core.List.{List}
 use Prim.Native.Nat.{ℕ, _≤_}
 use native.Mathlib.Omega.{arith}
-use Rattle.sheet.proofs.Headers.{records-counted}
+use Rattle.sheet.proofs.Accepted.{records-counted, heads-found, records-found}
 use Rattle.sheet.proofs.Marks.{zeros-length, none-marked}
-use Rattle.sheet.proofs.Passed.{walkable}
 use Rattle.sheet.proofs.chains.check.Statement.{statement}
 use Rattle.sheet.proofs.chains.check.Tie as tie
 
 few : (a : tie.Start) → a .args .h .records ≤ 1024
-few a = omega (arith, a .pre .0 .records, records-counted (a .args .sheet .now) (a .pre .0))
+few a = omega (arith, a .pre .0 .records, records-counted (a .pre .0))
 
 cast-k : tie.Need-cast-k
 cast-k c = search needs
@@ -29,7 +28,15 @@ reached-once-requires c κs =
     let a = c .before .before .before in
     let s : List ℕ = a .args .sheet .now in
     let k : ℕ = a .args .h .records in
-    (walkable s (a .pre .0) (a .pre .1) (a .pre .2) (zeros-length 1024 k (few a) ∙ records-counted s (a .pre .0)), none-marked 1024 k (few a))
+    let (has, four, five) = a .pre in (
+      record {
+        header = has;
+        room = zeros-length 1024 k (few a) ∙ records-counted has;
+        heads = heads-found s four;
+        nexts = λ r low high. records-found s five r low high .next;
+      },
+      none-marked 1024 k (few a),
+    )
 
 returns : tie.Need-returns
 returns c = search needs

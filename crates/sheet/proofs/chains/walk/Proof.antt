@@ -7,7 +7,7 @@ use Prim.Native.Nat.{ℕ, _+_, _-_, _≤_}
 use native.Mathlib.Omega.{arith}
 use Rattle.sheet.specs.Format.{conditionCount, headAt}
 use Rattle.sheet.specs.Inner.{WalkedTo, oneChain}
-use Rattle.sheet.proofs.Headers.{conditions-counted}
+use Rattle.sheet.proofs.Accepted.{conditions-counted}
 use Rattle.sheet.proofs.Walking.{Chaining, none-yet, all-walked, chain-refused, chain-passed}
 use Rattle.sheet.proofs.chains.walk.Statement.{statement}
 use Rattle.sheet.proofs.chains.walk.Tie as tie
@@ -22,7 +22,7 @@ abbrev μ-loop : tie.MeasureT-loop
 in-range : (c : tie.In-loop Inv-loop μ-loop) → c .before .loop .c ≤ conditionCount (c .before .before .before .before .args .sheet .now)
 in-range c =
     let a = c .before .before .before .before in
-    omega (arith, conditions-counted (a .args .sheet .now) (a .pre .0 .header))
+    omega (arith, conditions-counted (a .pre .0 .header))
 
 chain-walked : (c : tie.After-walk-chain Inv-loop μ-loop)
     → let l = c .before .before .before .before in
@@ -41,7 +41,7 @@ head-at-requires : tie.Need-head-at-requires Inv-loop μ-loop
 head-at-requires c κs =
     let a = c .before .before .before .before in
     let has = a .pre .0 .header in
-    omega (arith, conditions-counted (a .args .sheet .now) has, has .whole, c .before .loop .inv .least)
+    omega (arith, conditions-counted has, has .whole, c .before .loop .inv .least)
 
 walk-chain-requires : tie.Need-walk-chain-requires Inv-loop μ-loop
 walk-chain-requires c κs =
@@ -89,7 +89,7 @@ same-length-2 c = search needs
 returns-2 : tie.Need-returns-2 Inv-loop μ-loop
 returns-2 c =
     let a = c .before .before .before .before in
-    all-walked (c .before .loop .inv) (omega (arith, conditions-counted (a .args .sheet .now) (a .pre .0 .header)))
+    all-walked (c .before .loop .inv) (omega (arith, conditions-counted (a .pre .0 .header)))
 
 pub walk-spec : {M : Type 1} → statement M
 walk-spec =

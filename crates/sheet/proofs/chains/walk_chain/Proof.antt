@@ -2,7 +2,7 @@
 -- from the present record on, with the present marks. The measure is how many records are not marked: each turn marks one more.
 use borrow.Author.Needs.{needs}
 use native.Mathlib.Omega.{arith}
-use Rattle.sheet.proofs.Headers.{conditions-counted}
+use Rattle.sheet.proofs.Accepted.{conditions-counted, has-record}
 use Rattle.sheet.proofs.Marks.{unmarked}
 use Rattle.sheet.proofs.Walking.{Walking, begun, ended, hit, fewer, more}
 use Rattle.sheet.proofs.chains.walk_chain.Statement.{statement}
@@ -47,11 +47,7 @@ next-at-requires c κs =
     let l = c .before .before .before .before .before in
     let a = l .before .before .before in
     let has = a .pre .0 .header in
-    record {
-      counted = conditions-counted (a .args .sheet .now) has;
-      least = omega arith;
-      whole = omega (arith, conditions-counted (a .args .sheet .now) has, has .whole, l .loop .inv .within);
-    }
+    rw (conditions-counted has) (has-record has (l .loop .at .0) (omega arith) (l .loop .inv .within))
 
 loop-less : tie.Need-loop-less Inv-loop μ-loop
 loop-less c =

@@ -11,14 +11,14 @@ use Rattle.sheet.specs.declared.Verdict.the-variants.{Passes}
 use Rattle.sheet.specs.Format.{sheetLength}
 use Rattle.sheet.specs.Checks.{orElse, refusesIf, firstRefusal, headerChecks}
 use Rattle.sheet.specs.Inner.{headerAt}
-use Rattle.sheet.proofs.Headers.{by-tests}
+use Rattle.sheet.proofs.Tests.{header-by-tests}
 use Rattle.sheet.proofs.checks.header.Statement.{statement}
 use Rattle.sheet.proofs.checks.header.Tie as tie
 
 returns : tie.Need-returns
 returns c =
     let s : List ℕ = c .before .before .args .sheet .now in
-    sym (by-tests s {h = headerAt s} refl ∙ simp (lt-ltb _ _ (c .if1 .taken)))
+    sym (header-by-tests s {h = headerAt s} refl ∙ simp (lt-ltb _ _ (c .if1 .taken)))
 
 header-of-requires : tie.Need-header-of-requires
 header-of-requires c κs = search needs
@@ -26,14 +26,14 @@ header-of-requires c κs = search needs
 returns-2 : tie.Need-returns-2
 returns-2 c =
     let h = c .before .before in
-    sym (by-tests (h .before .before .before .args .sheet .now) (h .header-of .ensures)
+    sym (header-by-tests (h .before .before .before .args .sheet .now) (h .header-of .ensures)
     ∙ simp (le-ltb _ _ (h .before .if1 .left), lt-ltb _ _ (c .if2 .taken)))
 
 returns-3 : tie.Need-returns-3
 returns-3 c =
     let second = c .before .before in
     let h = second .before .before in
-    sym (by-tests (h .before .before .before .args .sheet .now) (h .header-of .ensures)
+    sym (header-by-tests (h .before .before .before .args .sheet .now) (h .header-of .ensures)
     ∙ simp (le-ltb _ _ (h .before .if1 .left), le-ltb _ _ (second .if2 .left), lt-ltb _ _ (c .if3 .taken)))
 
 returns-4 : tie.Need-returns-4
@@ -41,7 +41,7 @@ returns-4 c =
     let third = c .before .before in
     let second = third .before .before in
     let h = second .before .before in
-    sym (by-tests (h .before .before .before .args .sheet .now) (h .header-of .ensures)
+    sym (header-by-tests (h .before .before .before .args .sheet .now) (h .header-of .ensures)
     ∙ simp (le-ltb _ _ (h .before .if1 .left), le-ltb _ _ (second .if2 .left), le-ltb _ _ (third .if3 .left), lt-ltb _ _ (c .if4 .taken)))
 
 -- Once the four tests on the counts have passed, the length decides.
@@ -55,7 +55,7 @@ by-length c =
     let third = fourth .before .before in
     let second = third .before .before in
     let h = second .before .before in
-    by-tests (h .before .before .before .args .sheet .now) (h .header-of .ensures)
+    header-by-tests (h .before .before .before .args .sheet .now) (h .header-of .ensures)
     ∙ simp (le-ltb _ _ (h .before .if1 .left), le-ltb _ _ (second .if2 .left), le-ltb _ _ (third .if3 .left), le-ltb _ _ (fourth .if4 .left))
 
 cast-if5 : tie.Need-cast-if5

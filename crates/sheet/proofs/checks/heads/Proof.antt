@@ -9,7 +9,7 @@ use native.Mathlib.Omega.{arith}
 use lib.Dec.{ltb}
 use Rattle.sheet.specs.Format.{conditionCount, recordCount, headAt}
 use Rattle.sheet.specs.Checks.{check4}
-use Rattle.sheet.proofs.Headers.{conditions-counted, records-counted}
+use Rattle.sheet.proofs.Accepted.{conditions-counted, records-counted}
 use Rattle.sheet.proofs.Loops.{Counting, start, end, refused, passed}
 use Rattle.sheet.proofs.checks.heads.Statement.{statement}
 use Rattle.sheet.proofs.checks.heads.Tie as tie
@@ -31,12 +31,12 @@ loop-holds c =
 head-at-requires : tie.Need-head-at-requires Inv-loop μ-loop
 head-at-requires c κs =
     let a = c .before .before .before in
-    omega (arith, conditions-counted (a .args .sheet .now) (a .pre))
+    omega (arith, conditions-counted (a .pre))
 
 cast-t8 : tie.Need-cast-t8 Inv-loop μ-loop
 cast-t8 c =
     let a = c .before .before .before .before .before .before .before in
-    omega (arith, conditions-counted (a .args .sheet .now) (a .pre))
+    omega (arith, conditions-counted (a .pre))
 
 returns : tie.Need-returns Inv-loop μ-loop
 unfolding check4
@@ -46,13 +46,13 @@ returns c =
     let a = l .before .before in
     let s : List ℕ = a .args .sheet .now in
     refused 4 (aboveRecords s) (conditionCount s) (l .loop .inv)
-    (omega (arith, conditions-counted s (a .pre)))
-    (lt-ltb (recordCount s) (headAt s (l .loop .c)) (omega (arith, records-counted s (a .pre), b .head-at .ensures)))
+    (omega (arith, conditions-counted (a .pre)))
+    (lt-ltb (recordCount s) (headAt s (l .loop .c)) (omega (arith, records-counted (a .pre), b .head-at .ensures)))
 
 add-c : tie.Need-add-c Inv-loop μ-loop
 add-c c =
     let a = c .before .before .before .before .before .before .before in
-    omega (arith, conditions-counted (a .args .sheet .now) (a .pre))
+    omega (arith, conditions-counted (a .pre))
 
 loop-less : tie.Need-loop-less Inv-loop μ-loop
 loop-less c = search needs
@@ -64,15 +64,15 @@ loop-again c =
     let a = l .before .before in
     let s : List ℕ = a .args .sheet .now in
     passed 4 (aboveRecords s) (conditionCount s) (l .loop .inv)
-    (omega (arith, conditions-counted s (a .pre)))
-    (le-ltb (recordCount s) (headAt s (l .loop .c)) (omega (arith, records-counted s (a .pre), b .head-at .ensures)))
+    (omega (arith, conditions-counted (a .pre)))
+    (le-ltb (recordCount s) (headAt s (l .loop .c)) (omega (arith, records-counted (a .pre), b .head-at .ensures)))
 
 returns-2 : tie.Need-returns-2 Inv-loop μ-loop
 unfolding check4
 returns-2 c =
     let a = c .before .before .before in
     let s : List ℕ = a .args .sheet .now in
-    end 4 (aboveRecords s) (conditionCount s) (c .before .loop .inv) (omega (arith, conditions-counted s (a .pre)))
+    end 4 (aboveRecords s) (conditionCount s) (c .before .loop .inv) (omega (arith, conditions-counted (a .pre)))
 
 pub heads-spec : {M : Type 1} → statement M
 heads-spec =

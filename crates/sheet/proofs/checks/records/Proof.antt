@@ -8,7 +8,7 @@ use Prim.Native.Nat.{ℕ, _+_, _-_}
 use native.Mathlib.Omega.{arith}
 use Rattle.sheet.specs.Format.{recordCount}
 use Rattle.sheet.specs.Checks.{check5, wellFormed}
-use Rattle.sheet.proofs.Headers.{conditions-counted, records-counted}
+use Rattle.sheet.proofs.Accepted.{conditions-counted, records-counted, has-record}
 use Rattle.sheet.proofs.Loops.{Counting, start, end, refused, passed}
 use Rattle.sheet.proofs.checks.records.Statement.{statement}
 use Rattle.sheet.proofs.checks.records.Tie as tie
@@ -33,16 +33,16 @@ well-formed-requires c κs =
     let s : List ℕ = a .args .sheet .now in (
       a .pre .counts,
       record {
-        counted = conditions-counted s (a .pre);
+        counted = conditions-counted (a .pre);
         least = c .before .loop .inv .least;
-        whole = omega (arith, conditions-counted s (a .pre), records-counted s (a .pre));
+        whole = omega (arith, conditions-counted (a .pre), records-counted (a .pre));
       },
     )
 
 cast-t8 : tie.Need-cast-t8 Inv-loop μ-loop
 cast-t8 c =
     let a = c .before .before .before .before .before in
-    omega (arith, records-counted (a .args .sheet .now) (a .pre))
+    omega (arith, records-counted (a .pre))
 
 returns : tie.Need-returns Inv-loop μ-loop
 unfolding check5
@@ -51,13 +51,13 @@ returns c =
     let a = l .before .before in
     let s : List ℕ = a .args .sheet .now in
     refused 5 (badlyFormed s) (recordCount s) (l .loop .inv)
-    (omega (arith, records-counted s (a .pre)))
+    (omega (arith, records-counted (a .pre)))
     (ap not (sym (c .before .well-formed .ensures)) ∙ c .if1 .taken)
 
 add-r : tie.Need-add-r Inv-loop μ-loop
 add-r c =
     let a = c .before .before .before .before .before in
-    omega (arith, records-counted (a .args .sheet .now) (a .pre))
+    omega (arith, records-counted (a .pre))
 
 loop-less : tie.Need-loop-less Inv-loop μ-loop
 loop-less c = search needs
@@ -68,7 +68,7 @@ loop-again c =
     let a = l .before .before in
     let s : List ℕ = a .args .sheet .now in
     passed 5 (badlyFormed s) (recordCount s) (l .loop .inv)
-    (omega (arith, records-counted s (a .pre)))
+    (omega (arith, records-counted (a .pre)))
     (ap not (sym (c .before .well-formed .ensures)) ∙ c .if1 .left)
 
 returns-2 : tie.Need-returns-2 Inv-loop μ-loop
@@ -76,7 +76,7 @@ unfolding check5
 returns-2 c =
     let a = c .before .before .before in
     let s : List ℕ = a .args .sheet .now in
-    end 5 (badlyFormed s) (recordCount s) (c .before .loop .inv) (omega (arith, records-counted s (a .pre)))
+    end 5 (badlyFormed s) (recordCount s) (c .before .loop .inv) (omega (arith, records-counted (a .pre)))
 
 pub records-spec : {M : Type 1} → statement M
 records-spec =

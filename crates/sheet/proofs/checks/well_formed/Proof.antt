@@ -1,15 +1,20 @@
 -- `sheet::checks::well_formed` meets its contract: of the five tests the first that fails decides, or else the last one.
 use borrow.Author.Needs.{needs}
 use borrow.Author.Tests.{not-true, not-false, eq-eqb, ne-eqb}
-use mathlib.Core.Path.{sym, _∙_}
-use Rattle.sheet.proofs.Formed.{HasRead, bad-sign, bad-spare, bad-first-lot, bad-second-lot, by-next}
+use mathlib.Core.Bool.{and-false}
+use mathlib.Core.Path.{_≡_, sym, _∙_}
+use Rattle.sheet.specs.Format.{spareAt}
+use Rattle.sheet.specs.Checks.{wellFormed}
+use Rattle.sheet.proofs.Tests.{recordTests, record-by-tests}
 use Rattle.sheet.proofs.checks.well_formed.Statement.{statement}
 use Rattle.sheet.proofs.checks.well_formed.Tie as tie
 
-has-read : (c : tie.After-term-at)
+by-tests : (c : tie.After-term-at)
     → let a = c .before .before .args in
-    HasRead (a .sheet .now) (a .r .0) (a .h) (c .term-at .result)
-has-read c = record { header = c .before .before .pre .0; term = c .term-at .ensures }
+    wellFormed (a .sheet .now) (a .r .0) ≡ recordTests (a .h) (c .term-at .result) (spareAt (a .sheet .now) (a .r .0))
+by-tests c =
+    let a = c .before .before in
+    record-by-tests (a .args .sheet .now) (a .args .r .0) (a .pre .0) (c .term-at .ensures)
 
 term-at-requires : tie.Need-term-at-requires
 term-at-requires c κs = search needs
@@ -19,14 +24,15 @@ sign-known-requires c κs = search needs
 
 returns : tie.Need-returns
 returns c =
-    bad-sign (has-read (c .before .before)) (sym (c .before .sign-known .ensures) ∙ not-true _ (c .if1 .taken))
+    sym (by-tests (c .before .before) ∙ simp (sym (c .before .sign-known .ensures) ∙ not-true _ (c .if1 .taken)))
 
 spare-at-requires : tie.Need-spare-at-requires
 spare-at-requires c κs = search needs
 
 returns-2 : tie.Need-returns-2
 returns-2 c =
-    bad-spare (has-read (c .before .before .before .before)) (ne-eqb _ _ (λ z. c .if2 .taken (c .before .spare-at .ensures ∙ z)))
+    let other = ne-eqb _ _ (λ z. c .if2 .taken (c .before .spare-at .ensures ∙ z)) in
+    sym (by-tests (c .before .before .before .before) ∙ simp (other, and-false))
 
 lot-in-range-requires : tie.Need-lot-in-range-requires
 lot-in-range-requires c κs = search needs
@@ -34,7 +40,7 @@ lot-in-range-requires c κs = search needs
 returns-3 : tie.Need-returns-3
 returns-3 c =
     let t = c .before .before .before .before .before .before in
-    bad-first-lot (has-read t) (sym (c .before .lot-in-range .ensures) ∙ not-true _ (c .if3 .taken))
+    sym (by-tests t ∙ simp (sym (c .before .lot-in-range .ensures) ∙ not-true _ (c .if3 .taken), and-false))
 
 lot-in-range-requires-2 : tie.Need-lot-in-range-requires-2
 lot-in-range-requires-2 c κs = search needs
@@ -42,7 +48,7 @@ lot-in-range-requires-2 c κs = search needs
 returns-4 : tie.Need-returns-4
 returns-4 c =
     let t = c .before .before .before .before .before .before .before .before in
-    bad-second-lot (has-read t) (sym (c .before .lot-in-range2 .ensures) ∙ not-true _ (c .if4 .taken))
+    sym (by-tests t ∙ simp (sym (c .before .lot-in-range2 .ensures) ∙ not-true _ (c .if4 .taken), and-false))
 
 returns-5 : tie.Need-returns-5
 returns-5 c =
@@ -50,11 +56,13 @@ returns-5 c =
     let third = fourth .before .before in
     let second = third .before .before in
     let first = second .before .before in
-    by-next (has-read (first .before .before))
-    (sym (first .before .sign-known .ensures) ∙ not-false _ (first .if1 .left))
-    (eq-eqb _ _ (sym (second .before .spare-at .ensures) ∙ second .if2 .left))
-    (sym (third .before .lot-in-range .ensures) ∙ not-false _ (third .if3 .left))
-    (sym (fourth .before .lot-in-range2 .ensures) ∙ not-false _ (fourth .if4 .left))
+    sym (by-tests (first .before .before)
+    ∙ simp (
+      sym (first .before .sign-known .ensures) ∙ not-false _ (first .if1 .left),
+      eq-eqb _ _ (sym (second .before .spare-at .ensures) ∙ second .if2 .left),
+      sym (third .before .lot-in-range .ensures) ∙ not-false _ (third .if3 .left),
+      sym (fourth .before .lot-in-range2 .ensures) ∙ not-false _ (fourth .if4 .left),
+    ))
 
 pub well-formed-spec : {M : Type 1} → statement M
 well-formed-spec =
