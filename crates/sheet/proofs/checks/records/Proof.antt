@@ -29,15 +29,9 @@ loop-holds c =
 
 well-formed-requires : tie.Need-well-formed-requires Inv-loop μ-loop
 well-formed-requires c κs =
-    let a = c .before .before .before in
-    let s : List ℕ = a .args .sheet .now in (
-      a .pre .counts,
-      record {
-        counted = conditions-counted (a .pre);
-        least = c .before .loop .inv .least;
-        whole = omega (arith, conditions-counted (a .pre), records-counted (a .pre));
-      },
-    )
+    let l = c .before in
+    let has = l .before .before .pre in
+    (has .counts, rw (conditions-counted has) (has-record has (l .loop .r) (l .loop .inv .least) (omega (arith, records-counted has))))
 
 cast-t8 : tie.Need-cast-t8 Inv-loop μ-loop
 cast-t8 c =
