@@ -11,4 +11,4 @@ pub mod Records
 pub mod Conditions
 mod Tests
 mod Marks
-mod Walking
+mod WalkLoops

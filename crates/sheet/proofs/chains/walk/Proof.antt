@@ -8,7 +8,7 @@ use native.Mathlib.Omega.{arith}
 use Rattle.sheet.specs.Format.{conditionCount, headAt}
 use Rattle.sheet.specs.Inner.{WalkedTo, oneChain}
 use Rattle.sheet.proofs.Accepted.{conditions-counted}
-use Rattle.sheet.proofs.Walking.{Chaining, none-yet, all-walked, chain-refused, chain-passed}
+use Rattle.sheet.proofs.WalkLoops.{Chaining, none-yet, all-walked, chain-refused, chain-passed}
 use Rattle.sheet.proofs.chains.walk.Statement.{statement}
 use Rattle.sheet.proofs.chains.walk.Tie as tie
 

@@ -4,7 +4,7 @@ use borrow.Author.Needs.{needs}
 use native.Mathlib.Omega.{arith}
 use Rattle.sheet.proofs.Accepted.{conditions-counted, has-record}
 use Rattle.sheet.proofs.Marks.{unmarked}
-use Rattle.sheet.proofs.Walking.{Walking, begun, ended, hit, fewer, more}
+use Rattle.sheet.proofs.WalkLoops.{Walking, begun, ended, hit, fewer, more}
 use Rattle.sheet.proofs.chains.walk_chain.Statement.{statement}
 use Rattle.sheet.proofs.chains.walk_chain.Tie as tie
 

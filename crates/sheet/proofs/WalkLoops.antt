@@ -1,9 +1,9 @@
--- The walk along one chain, along all chains, and what checks 6 and 7 make of it.
+-- The walk's loops, along one chain and over all conditions; and what checks 6 and 7 make of the walk.
 use mathlib.Core.Path.{_≡_, refl, sym, ap, _∙_}
 use mathlib.Core.Bool.{true, false, not}
 use mathlib.Core.List.{List, [], _∷_}
-use Prim.Native.Nat.{ℕ, zero, suc, _+_, _-_, _≤_, _<_}
-use native.Mathlib.Numerals.{add-one, sub-one}
+use Prim.Native.Nat.{ℕ, suc, _+_, _-_, _≤_, _<_}
+use native.Mathlib.Numerals.{add-one}
 use native.Mathlib.Omega.{arith}
 use borrow.Author.Tests.{eq-eqb, ne-eqb}
 use lib.ListN.{length, getD, set, length-set}
@@ -14,40 +14,18 @@ use Rattle.sheet.specs.Checks.{Walk, reached, twice, member, walkChain, 
 use Rattle.sheet.specs.Checks.{orElse, lowestRefusal, check6, check7}
 use Rattle.sheet.specs.Inner.{Marks, isMarked, oneChain, WalkedTo, unmarkedVerdict}
 use Rattle.sheet.proofs.Verdicts.{not-both, lowest-agrees}
+use Rattle.sheet.proofs.Walks.{walk-end, walk-twice, walk-more, chains-twice}
 use Rattle.sheet.proofs.Marks.{unmarked, unmarked-le, unmarked-falls, mark}
 
--- ---- the steps of walkChain
-
-module _ (s : List ℕ) where
-  walk-end : (fuel : ℕ) (seen : List ℕ) {r : ℕ} → r ≡ 0 → walkChain s fuel seen r ≡ reached seen
-  unfolding walkChain
-  walk-end zero seen {r} e = refl
-  walk-end (suc n) seen {r = zero} e = refl
-  walk-end (suc n) seen {r = suc r} e = absurd (omega arith)
-
-  module _ (seen : List ℕ) where
-    walk-hit : (fuel : ℕ) {r : ℕ} → 0 < fuel → (r ≡ 0 → ⊥) → member r seen ≡ true → walkChain s fuel seen r ≡ twice r
-    unfolding walkChain
-    walk-hit zero {r} h f e = absurd (omega arith)
-    walk-hit (suc n) {r = zero} h f e = absurd (f refl)
-    walk-hit (suc n) {r = suc r} h f e = simp e
-
-    walk-more : (fuel : ℕ) {r : ℕ} → 0 < fuel → (r ≡ 0 → ⊥) → member r seen ≡ false
-        → walkChain s fuel seen r ≡ walkChain s (fuel - 1) (r ∷ seen) (nextAt s r)
-    unfolding walkChain
-    walk-more zero {r} h f e = absurd (omega arith)
-    walk-more (suc n) {r = zero} h f e = absurd (f refl)
-    walk-more (suc n) {r = suc r} h f e = simp (e, sub-one)
-
--- ---- the walk from a record on
+-- ---- along one chain
 
 -- The walk goes on at record r: the marks stand for what it has seen, and it has fuel for each record that is not marked.
 pub record Ahead (s marks : List ℕ) (r : ℕ) (walk : Walk) : Type 0 where
   pub fuel : ℕ
   pub seen : List ℕ
   pub stand : Marks marks seen
-  pub enough : unmarked marks < fuel
-  pub rest : walk ≡ walkChain s fuel seen r
+  pub enough : unmarked marks ≤ fuel
+  pub rest : walk ≡ walkChain s (suc fuel) seen r
 
 -- One chain's loop, which began at `head` with `marks₀`: whatever those stood for, the walk goes on at record r.
 pub record Walking (s marks₀ : List ℕ) (head : ℕ) (marks : List ℕ) (r : ℕ) : Type 0 where
@@ -62,7 +40,7 @@ begun s marks head room within =
       within = within;
       ahead = λ seen stand.
           record {
-            fuel = suc (recordCount s);
+            fuel = recordCount s;
             seen = seen;
             stand = stand;
             enough = omega (arith, unmarked-le marks);
@@ -74,7 +52,7 @@ module _ {s marks₀ : List ℕ} {head : ℕ} {marks : List ℕ} {r : ℕ} (w : 
   pub ended : r ≡ 0 → (seen : List ℕ) → Marks marks₀ seen → WalkedTo (oneChain s seen head) Passes marks
   ended e seen stand =
       let a = w .ahead seen stand in
-      rw (a .rest ∙ walk-end s (a .fuel) (a .seen) e) (refl, a .stand)
+      rw (a .rest, e, walk-end) (refl, a .stand)
 
   module _ (some : r ≡ 0 → ⊥) where
     among : r ≤ length marks
@@ -84,7 +62,7 @@ module _ {s marks₀ : List ℕ} {head : ℕ} {marks : List ℕ} {r : ℕ} (w : 
     hit e seen stand =
         let a = w .ahead seen stand in
         let known : member r (a .seen) ≡ true = sym (a .stand .stand r (omega arith) among) ∙ eq-eqb _ _ e in
-        rw (a .rest ∙ walk-hit s (a .seen) (a .fuel) (omega (arith, a .enough)) some known) refl
+        rw (a .rest ∙ walk-twice s (a .fuel) (a .seen) r (omega arith) known)
 
     module _ (f : getD marks (r - 1) 0 ≡ 1 → ⊥) where
       pub fewer : unmarked (set marks (r - 1) 1) < unmarked marks
@@ -103,11 +81,12 @@ module _ {s marks₀ : List ℕ} {head : ℕ} {marks : List ℕ} {r : ℕ} (w : 
                   seen = r ∷ a .seen;
                   stand = mark (omega arith) among (a .stand);
                   enough = omega (arith, fewer, a .enough);
-                  rest = a .rest ∙ walk-more s (a .seen) (a .fuel) (omega (arith, a .enough)) some fresh;
+                  rest = a .rest ∙ walk-more s (a .fuel) (a .seen) r (omega arith) fresh
+                      ∙ ap (λ (n : ℕ). walkChain s n (r ∷ a .seen) (nextAt s r)) (omega (arith, fewer, a .enough));
                 };
           }
 
--- ---- the chains of all conditions
+-- ---- over all conditions
 
 -- The loop over conditions, at condition c: the marks stand for what the chains before c have seen.
 pub record Chaining (s marks : List ℕ) (c : ℕ) : Type 0 where
@@ -129,12 +108,6 @@ none-yet s room stand =
       stand = stand;
       rest = ap (λ (n : ℕ). walkChains s n 1 (reached [])) (omega arith);
     }
-
--- Once a record is reached a second time, the chains that are left change nothing.
-stays : (s : List ℕ) (count c r : ℕ) → walkChains s count c (twice r) ≡ twice r
-unfolding walkChains
-stays s zero c r = refl
-stays s (suc n) c r = refl
 
 module _ {s marks : List ℕ} {c : ℕ} (i : Chaining s marks c) where
   pub all-walked : conditionCount s < c → WalkedTo (walked s) Passes marks
@@ -158,7 +131,7 @@ module _ {s marks : List ℕ} {c : ℕ} (i : Chaining s marks c) where
       where
         go : (w : Walk) → walked s ≡ walkChains s (conditionCount s - c) (c + 1) w → WalkedTo w v after → WalkedTo (walked s) v after
         go (reached seen) e same = absurd (not-both (same .0) told)
-        go (twice r) e same = rw (e, stays) same
+        go (twice r) e same = rw (e, chains-twice) same
 
     pub chain-passed : {v : Verdict} → v ≡ Passes → {after : List ℕ} → length after ≡ recordCount s
         → WalkedTo (oneChain s (i .seen) (headAt s c)) v after → Chaining s after (c + 1)
