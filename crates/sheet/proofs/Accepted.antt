@@ -11,8 +11,8 @@ use borrow.Author.Tests.{eqb-true, leb-true, ltb-false, not-false}
 use Rattle.sheet.specs.declared.Header.{Header}
 use Rattle.sheet.specs.declared.Verdict.the-variants.{Passes}
 use Rattle.sheet.specs.Format.{lowestLot, headerLength, lotCount, conditionCount, recordCount, headAt, signAt, spareAt, firstLotAt, secondLotAt, nextAt}
-use Rattle.sheet.specs.Inner.{headerAt, HasHeader, HasRecord}
 use Rattle.sheet.specs.Checks.{orElse, firstRefusal, check2, check3, check4, check5, check6, check7, lotInRange, wellFormed, Walk, reached, twice, member, walked, chainsVerdict, reachedBy, headerChecks, sheetChecks, sheetVerdict, Accepted}
+use Rattle.sheet.specs.Inner.{headerAt, HasHeader, HasRecord}
 use Rattle.sheet.proofs.Verdicts.{orElse-end, orElse-assoc, orElse-passes, firstRefusal-passes, refusesIf-passes, lowest-passes}
 
 -- A lot that a term may name, of so many lots.

@@ -7,8 +7,8 @@ use lib.Dec.{eqb, leb, ltb}
 use lib.ListN.{length}
 use Rattle.sheet.specs.declared.Header.{Header}
 use Rattle.sheet.specs.declared.Term.{Term}
-use Rattle.sheet.specs.declared.Verdict.{Verdict}
 use Rattle.sheet.specs.declared.Verdict.the-variants.{Passes}
+use Rattle.sheet.specs.declared.Verdict.{Verdict}
 use Rattle.sheet.specs.Format.{mostLots, mostConditions, mostRecords, headerLength, sheetLength, spareAt}
 use Rattle.sheet.specs.Checks.{orElse, firstRefusal, refusesIf, check1, check2, check3, lotInRange, wellFormed, headerChecks}
 use Rattle.sheet.specs.Inner.{headerAt, termRecordAt}

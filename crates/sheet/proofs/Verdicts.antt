@@ -6,8 +6,8 @@ use mathlib.Core.Path.{_≡_, refl, ap, ap₂, _∙_}
 use native.Mathlib.Omega.{arith}
 use lib.Dec.{eqb}
 use borrow.Author.Tests.{eqb-true, eqb-false}
-use Rattle.sheet.specs.declared.Verdict.{Verdict}
 use Rattle.sheet.specs.declared.Verdict.the-variants.{Passes, Refuses}
+use Rattle.sheet.specs.declared.Verdict.{Verdict}
 use Rattle.sheet.specs.Checks.{orElse, firstRefusal, refusesIf, lowestRefusal}
 
 -- No verdict both passes and refuses.

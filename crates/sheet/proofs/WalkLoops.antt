@@ -1,17 +1,16 @@
 -- The walk's loops, along one chain and over all conditions; and what checks 6 and 7 make of the walk.
-use mathlib.Core.Path.{_≡_, refl, sym, ap, _∙_}
+use Prim.Native.Nat.{ℕ, suc, _+_, _-_, _≤_, _<_}
 use mathlib.Core.Bool.{true, false, not}
 use mathlib.Core.List.{List, [], _∷_}
-use Prim.Native.Nat.{ℕ, suc, _+_, _-_, _≤_, _<_}
+use mathlib.Core.Path.{_≡_, refl, sym, ap, _∙_}
 use native.Mathlib.Numerals.{add-one}
 use native.Mathlib.Omega.{arith}
-use borrow.Author.Tests.{eq-eqb, ne-eqb}
 use lib.ListN.{length, getD, set, length-set}
-use Rattle.sheet.specs.declared.Verdict.{Verdict}
+use borrow.Author.Tests.{eq-eqb, ne-eqb}
 use Rattle.sheet.specs.declared.Verdict.the-variants.{Passes, Refuses}
+use Rattle.sheet.specs.declared.Verdict.{Verdict}
 use Rattle.sheet.specs.Format.{conditionCount, recordCount, headAt, nextAt}
-use Rattle.sheet.specs.Checks.{Walk, reached, twice, member, walkChain, walkChains, walked, chainsVerdict, reachedBy}
-use Rattle.sheet.specs.Checks.{orElse, lowestRefusal, check6, check7}
+use Rattle.sheet.specs.Checks.{Walk, reached, twice, member, walkChain, walkChains, walked, chainsVerdict, reachedBy, orElse, lowestRefusal, check6, check7}
 use Rattle.sheet.specs.Inner.{Marks, isMarked, oneChain, WalkedTo, unmarkedVerdict}
 use Rattle.sheet.proofs.Verdicts.{not-both, lowest-agrees}
 use Rattle.sheet.proofs.Walks.{walk-end, walk-twice, walk-more, chains-twice}

@@ -1,10 +1,10 @@
 -- `sheet::first_refusal` meets its contract: the checks stand in the table's order, and each is asked once those before it have passed.
-use borrow.Author.Needs.{needs}
-use mathlib.Core.Path.{_≡_, sym, _∙_}
-use mathlib.Core.List.{List}
 use Prim.Native.Nat.{ℕ}
-use Rattle.sheet.specs.declared.Verdict.{Verdict}
+use mathlib.Core.List.{List}
+use mathlib.Core.Path.{_≡_, sym, _∙_}
+use borrow.Author.Needs.{needs}
 use Rattle.sheet.specs.declared.Verdict.the-variants.{Passes}
+use Rattle.sheet.specs.declared.Verdict.{Verdict}
 use Rattle.sheet.specs.Checks.{orElse, firstRefusal, headerChecks, check4, check5, check6, check7, sheetVerdict}
 use Rattle.sheet.specs.Inner.{HasHeader}
 use Rattle.sheet.proofs.Verdicts.{passed-on, refused-here}

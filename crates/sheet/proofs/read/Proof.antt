@@ -1,8 +1,8 @@
 -- `sheet::read` meets its contract: a refusal is answered as it is, and a sheet that passes has the six bytes of its header.
-use borrow.Author.Needs.{needs}
-use mathlib.Core.Path.{sym, _∙_}
-use mathlib.Core.List.{List}
 use Prim.Native.Nat.{ℕ}
+use mathlib.Core.List.{List}
+use mathlib.Core.Path.{sym, _∙_}
+use borrow.Author.Needs.{needs}
 use Rattle.sheet.specs.Answers.{readAnswer}
 use Rattle.sheet.proofs.Accepted.{header-whole, sound}
 use Rattle.sheet.proofs.read.Statement.{statement}

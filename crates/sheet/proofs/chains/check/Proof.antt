@@ -1,9 +1,9 @@
 -- `sheet::chains::check` meets its contract: k zeros are marks of which none is set, and checks 1 to 5 make the sheet one to walk.
-use borrow.Author.Needs.{needs}
-use mathlib.Core.Path.{sym, _∙_}
-use mathlib.Core.List.{List}
 use Prim.Native.Nat.{ℕ, _≤_}
+use mathlib.Core.List.{List}
+use mathlib.Core.Path.{sym, _∙_}
 use native.Mathlib.Omega.{arith}
+use borrow.Author.Needs.{needs}
 use Rattle.sheet.proofs.Accepted.{records-counted, heads-found, records-found}
 use Rattle.sheet.proofs.Marks.{zeros-length, none-marked}
 use Rattle.sheet.proofs.chains.check.Statement.{statement}

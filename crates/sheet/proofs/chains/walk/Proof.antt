@@ -1,10 +1,10 @@
 -- `sheet::chains::walk` meets its contract. The loop's invariant: the walk along all chains is what it is from the present condition on,
 -- after the records that the marks stand for. The measure is how many conditions are left.
-use borrow.Author.Needs.{needs}
-use mathlib.Core.Path.{sym, _∙_}
-use mathlib.Core.List.{List}
 use Prim.Native.Nat.{ℕ, _+_, _-_, _≤_}
+use mathlib.Core.List.{List}
+use mathlib.Core.Path.{sym, _∙_}
 use native.Mathlib.Omega.{arith}
+use borrow.Author.Needs.{needs}
 use Rattle.sheet.specs.Format.{conditionCount, headAt}
 use Rattle.sheet.specs.Inner.{WalkedTo, oneChain}
 use Rattle.sheet.proofs.Accepted.{conditions-counted}

@@ -1,7 +1,7 @@
 -- `sheet::chains::walk_chain` meets its contract. The loop's invariant: the walk, whatever its marks stood for at first, is what it is
 -- from the present record on, with the present marks. The measure is how many records are not marked: each turn marks one more.
-use borrow.Author.Needs.{needs}
 use native.Mathlib.Omega.{arith}
+use borrow.Author.Needs.{needs}
 use Rattle.sheet.proofs.Accepted.{conditions-counted, has-record}
 use Rattle.sheet.proofs.Marks.{unmarked}
 use Rattle.sheet.proofs.WalkLoops.{Walking, begun, ended, hit, fewer, more}

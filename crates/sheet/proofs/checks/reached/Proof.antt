@@ -1,12 +1,12 @@
 -- `sheet::checks::reached` meets its contract. The loop's invariant: each record before the present one is marked.
 -- The measure is how many records are left.
-use borrow.Author.Needs.{needs}
-use borrow.Author.Tests.{eq-eqb, ne-eqb}
-use mathlib.Core.Path.{ap}
+use Prim.Native.Nat.{ℕ, _+_, _-_}
 use mathlib.Core.Bool.{Bool, not}
 use mathlib.Core.List.{List}
-use Prim.Native.Nat.{ℕ, _+_, _-_}
+use mathlib.Core.Path.{ap}
 use lib.ListN.{length}
+use borrow.Author.Needs.{needs}
+use borrow.Author.Tests.{eq-eqb, ne-eqb}
 use Rattle.sheet.specs.Inner.{isMarked, unmarkedVerdict}
 use Rattle.sheet.proofs.Loops.{Counting, start, end, refused, passed}
 use Rattle.sheet.proofs.checks.reached.Statement.{statement}
@@ -22,9 +22,7 @@ abbrev μ-loop : tie.MeasureT-loop
 μ-loop marks r₀ r = length marks + 1 - r
 
 loop-holds : tie.Need-loop-holds Inv-loop μ-loop
-loop-holds c =
-    let marks : List ℕ = c .args .marks .now in
-    start 7 (notMarked marks) (length marks)
+loop-holds c = start
 
 sub-if1 : tie.Need-sub-if1 Inv-loop μ-loop
 sub-if1 c = search needs
@@ -38,9 +36,8 @@ cast-t7 c = search needs
 returns : tie.Need-returns Inv-loop μ-loop
 unfolding unmarkedVerdict
 returns c =
-    let l = c .before .before .before in
-    let marks : List ℕ = l .before .args .marks .now in
-    refused 7 (notMarked marks) (length marks) (l .loop .inv) (c .before .before .loop-test .taken) (ap not (ne-eqb _ _ (c .if1 .taken)))
+    let t = c .before .before in
+    refused (t .before .loop .inv) (t .loop-test .taken) (ap not (ne-eqb _ _ (c .if1 .taken)))
 
 add-r : tie.Need-add-r Inv-loop μ-loop
 add-r c = search needs
@@ -50,15 +47,12 @@ loop-less c = search needs
 
 loop-again : tie.Need-loop-again Inv-loop μ-loop
 loop-again c =
-    let l = c .before .before .before in
-    let marks : List ℕ = l .before .args .marks .now in
-    passed 7 (notMarked marks) (length marks) (l .loop .inv) (c .before .before .loop-test .taken) (ap not (eq-eqb _ _ (c .if1 .left)))
+    let t = c .before .before in
+    passed (t .before .loop .inv) (t .loop-test .taken) (ap not (eq-eqb _ _ (c .if1 .left)))
 
 returns-2 : tie.Need-returns-2 Inv-loop μ-loop
 unfolding unmarkedVerdict
-returns-2 c =
-    let marks : List ℕ = c .before .before .args .marks .now in
-    end 7 (notMarked marks) (length marks) (c .before .loop .inv) (c .loop-test .left)
+returns-2 c = end (c .before .loop .inv) (c .loop-test .left)
 
 pub reached-spec : {M : Type 1} → statement M
 reached-spec =

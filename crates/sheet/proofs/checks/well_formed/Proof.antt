@@ -1,8 +1,8 @@
 -- `sheet::checks::well_formed` meets its contract: of the five tests the first that fails decides, or else the last one.
-use borrow.Author.Needs.{needs}
-use borrow.Author.Tests.{not-true, not-false, eq-eqb, ne-eqb}
 use mathlib.Core.Bool.{and-false}
 use mathlib.Core.Path.{_≡_, sym, _∙_}
+use borrow.Author.Needs.{needs}
+use borrow.Author.Tests.{not-true, not-false, eq-eqb, ne-eqb}
 use Rattle.sheet.specs.Format.{spareAt}
 use Rattle.sheet.specs.Checks.{wellFormed}
 use Rattle.sheet.proofs.Tests.{recordTests, record-by-tests}
