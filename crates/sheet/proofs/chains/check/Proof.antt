@@ -9,6 +9,7 @@ use Rattle.sheet.proofs.Marks.{zeros-length, none-marked}
 use Rattle.sheet.proofs.chains.check.Statement.{statement}
 use Rattle.sheet.proofs.chains.check.Tie as tie
 
+-- The marks have room for every record.
 few : (a : tie.Start) → a .args .h .records ≤ 1024
 few a = omega (arith, a .pre .0 .records, records-counted (a .pre .0))
 

@@ -20,9 +20,7 @@ abbrev μ-loop : tie.MeasureT-loop
 
 -- In a turn the condition is one of the sheet's, and its chain's walk is what `walk_chain` says.
 in-range : (c : tie.In-loop Inv-loop μ-loop) → c .before .loop .c ≤ conditionCount (c .before .before .before .before .args .sheet .now)
-in-range c =
-    let a = c .before .before .before .before in
-    omega (arith, conditions-counted (a .pre .0 .header))
+in-range c = omega (arith, conditions-counted (c .before .before .before .before .pre .0 .header))
 
 chain-walked : (c : tie.After-walk-chain Inv-loop μ-loop)
     → let l = c .before .before .before .before in
@@ -38,10 +36,7 @@ loop-holds c =
     none-yet (a .args .sheet .now) (a .pre .0 .room) (a .pre .1)
 
 head-at-requires : tie.Need-head-at-requires Inv-loop μ-loop
-head-at-requires c κs =
-    let a = c .before .before .before .before in
-    let has = a .pre .0 .header in
-    omega (arith, conditions-counted has, has .whole, c .before .loop .inv .least)
+head-at-requires c κs = omega (arith, in-range c)
 
 walk-chain-requires : tie.Need-walk-chain-requires Inv-loop μ-loop
 walk-chain-requires c κs =
@@ -88,8 +83,8 @@ same-length-2 c = search needs
 
 returns-2 : tie.Need-returns-2 Inv-loop μ-loop
 returns-2 c =
-    let a = c .before .before .before .before in
-    all-walked (c .before .loop .inv) (omega (arith, conditions-counted (a .pre .0 .header)))
+    let l = c .before in
+    all-walked (l .loop .inv) (omega (arith, conditions-counted (l .before .before .before .pre .0 .header)))
 
 pub walk-spec : {M : Type 1} → statement M
 walk-spec =

@@ -9,6 +9,7 @@ use Rattle.sheet.proofs.Tests.{recordTests, record-by-tests}
 use Rattle.sheet.proofs.checks.well_formed.Statement.{statement}
 use Rattle.sheet.proofs.checks.well_formed.Tie as tie
 
+-- Once the term is read, the five tests on it decide.
 by-tests : (c : tie.After-term-at)
     → let a = c .before .before .args in
     wellFormed (a .sheet .now) (a .r .0) ≡ recordTests (a .h) (c .term-at .result) (spareAt (a .sheet .now) (a .r .0))
