@@ -11,9 +11,9 @@ use borrow.Author.Tests.{eqb-true, leb-true, ltb-false, not-false}
 use Rattle.sheet.specs.declared.Header.{Header}
 use Rattle.sheet.specs.declared.Verdict.the-variants.{Passes}
 use Rattle.sheet.specs.Format.{lowestLot, headerLength, lotCount, conditionCount, recordCount, headAt, signAt, spareAt, firstLotAt, secondLotAt, nextAt}
+use Rattle.sheet.specs.Checks.{orElse, firstRefusal, check2, check3, check4, check5, check6, check7, lotInRange, wellFormed, Walk, reached, twice, member, walked, chainsVerdict, reachedBy, headerChecks, sheetChecks, sheetVerdict, Accepted}
 use Rattle.sheet.specs.Inner.{headerAt, HasHeader, HasRecord}
-use Rattle.sheet.specs.Checks.{check2, check3, check4, check5, check6, check7, lotInRange, wellFormed, Walk, reached, twice, member, walked, chainsVerdict, reachedBy, sheetChecks, sheetVerdict, Accepted}
-use Rattle.sheet.proofs.Verdicts.{orElse-passes, firstRefusal-passes, refusesIf-passes, lowest-passes}
+use Rattle.sheet.proofs.Verdicts.{orElse-end, orElse-assoc, orElse-passes, firstRefusal-passes, refusesIf-passes, lowest-passes}
 
 -- A lot that a term may name, of so many lots.
 pub record InLots (lots lot : ℕ) : Type 0 where
@@ -37,7 +37,22 @@ pub record Sound (s : List ℕ) : Type 0 where
   pub walk : walked s ≡ reached seen
   pub every : (r : ℕ) → 1 ≤ r → r ≤ recordCount s → member r seen ≡ true
 
+-- ---- the order of the checks
+
+-- The header's, then one after another.
+pub in-order : (s : List ℕ)
+    → sheetVerdict s ≡ orElse (firstRefusal (headerChecks s)) (orElse (check4 s) (orElse (check5 s) (orElse (check6 s) (check7 s))))
+unfolding sheetVerdict sheetChecks firstRefusal
+in-order s = simp (orElse-end, orElse-assoc)
+
 -- ---- bytes with a header
+
+-- The header's counts are theirs.
+pub conditions-counted : {s : List ℕ} {h : Header} → HasHeader s h → h .conditions ≡ conditionCount s
+conditions-counted has = ap (λ (g : Header). g .conditions) (has .counts)
+
+pub records-counted : {s : List ℕ} {h : Header} → HasHeader s h → h .records ≡ recordCount s
+records-counted has = ap (λ (g : Header). g .records) (has .counts)
 
 -- The header stands whole in them, and so does each record.
 pub header-whole : {s : List ℕ} {h : Header} → HasHeader s h → headerLength ≤ length s
@@ -93,6 +108,14 @@ module _ (s : List ℕ) where
         whole = eqb-true _ _ (not-false _ (refusesIf-passes _ 3 0 size));
       }
 
+  -- Checks 1 to 3.
+  pub header-passed : firstRefusal (headerChecks s) ≡ Passes → HasHeader s (headerAt s)
+  header-passed e =
+      let (p₁, e₁) = firstRefusal-passes _ _ e in
+      let (p₂, e₂) = firstRefusal-passes _ _ e₁ in
+      let (p₃, e₃) = firstRefusal-passes _ _ e₂ in
+      header-found p₂ p₃
+
   -- Check 4.
   pub heads-found : check4 s ≡ Passes → (c : ℕ) → 1 ≤ c → c ≤ conditionCount s → headAt s c ≤ recordCount s
   unfolding check4
@@ -116,18 +139,14 @@ module _ (s : List ℕ) where
 
   -- All of them.
   pub sound : Accepted s → Sound s
-  unfolding sheetVerdict sheetChecks
   sound e =
-      let (p₁, e₁) = firstRefusal-passes _ _ e in
-      let (p₂, e₂) = firstRefusal-passes _ _ e₁ in
-      let (p₃, e₃) = firstRefusal-passes _ _ e₂ in
-      let (p₄, e₄) = firstRefusal-passes _ _ e₃ in
-      let (p₅, e₅) = firstRefusal-passes _ _ e₄ in
-      let (p₆, e₆) = firstRefusal-passes _ _ e₅ in
-      let (p₇, e₇) = firstRefusal-passes _ _ e₆ in
+      let (p, e₄) = orElse-passes _ _ (sym (in-order s) ∙ e) in
+      let (p₄, e₅) = orElse-passes _ _ e₄ in
+      let (p₅, e₆) = orElse-passes _ _ e₅ in
+      let (p₆, p₇) = orElse-passes _ _ e₆ in
       let (seen, walk) = walk-found p₆ in
       record {
-        header = header-found p₂ p₃;
+        header = header-passed p;
         heads = heads-found p₄;
         records = records-found p₅;
         seen = seen;

@@ -3,18 +3,14 @@ use Prim.Native.Nat.{ℕ}
 use mathlib.Core.List.{List, [], _∷_, _++_}
 use mathlib.Core.Path.{_≡_, refl, sym, ap, _∙_}
 use Rattle.sheet.specs.declared.Verdict.{Verdict}
-use Rattle.sheet.specs.declared.Verdict.the-variants.{Passes, Refuses}
+use Rattle.sheet.specs.declared.Verdict.the-variants.{Passes}
 use Rattle.sheet.specs.Checks.{orElse, firstRefusal, sheetChecks, sheetVerdict, Accepted}
-use Rattle.sheet.proofs.Verdicts.{orElse-passes}
-
-or-after : (u v w : Verdict) → orElse u (orElse v w) ≡ orElse (orElse u v) w
-or-after Passes v w = refl
-or-after (Refuses check place) v w = refl
+use Rattle.sheet.proofs.Verdicts.{orElse-assoc, orElse-passes}
 
 first-append : (us vs : List Verdict) → firstRefusal (us ++ vs) ≡ orElse (firstRefusal us) (firstRefusal vs)
 unfolding firstRefusal
 first-append [] vs = refl
-first-append (u ∷ us) vs = ap (orElse u) (first-append us vs) ∙ or-after u (firstRefusal us) (firstRefusal vs)
+first-append (u ∷ us) vs = ap (orElse u) (first-append us vs) ∙ sym (orElse-assoc u (firstRefusal us) (firstRefusal vs))
 
 module _ (s : List ℕ) (vs : List Verdict) where
   -- The sheet's verdict comes first,

@@ -1,6 +1,7 @@
 pub mod Verdicts
 pub mod Further
 pub mod Readings
+pub mod Loops
 pub mod Times
 pub mod Ranges
 pub mod Distinct
@@ -15,9 +16,6 @@ pub mod CanonicalWithin
 pub mod CanonicalChains
 pub mod CanonicalBytes
 pub mod Canonical
-mod Headers
-mod Formed
-mod Loops
+mod Tests
 mod Marks
-mod Walking
-mod Passed
+mod WalkLoops

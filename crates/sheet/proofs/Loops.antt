@@ -1,10 +1,9 @@
 -- Loops that count up and stop at the lowest number that fails: what one turn does to a check by lowestRefusal.
-use mathlib.Core.Path.{_≡_, refl, sym, ap, _∙_}
+use Prim.Native.Nat.{ℕ, suc, _+_, _-_, _≤_, _<_}
 use mathlib.Core.Bool.{Bool, true, false}
-use Prim.Native.Nat.{ℕ, zero, suc, _+_, _-_, _≤_, _<_}
+use mathlib.Core.Path.{_≡_, sym, ap, _∙_}
 use native.Mathlib.Numerals.{add-one}
 use native.Mathlib.Omega.{arith}
-use Rattle.sheet.specs.declared.Verdict.{Verdict}
 use Rattle.sheet.specs.declared.Verdict.the-variants.{Passes, Refuses}
 use Rattle.sheet.specs.Checks.{lowestRefusal}
 
@@ -14,44 +13,39 @@ pub record Counting (check : ℕ) (fails : ℕ → Bool) (count c : ℕ) : Type 
   pub most : c ≤ count + 1
   pub rest : lowestRefusal check fails count 1 ≡ lowestRefusal check fails (count + 1 - c) c
 
-module _ (check : ℕ) (fails : ℕ → Bool) (count : ℕ) where
-  pub start : Counting check fails count 1
-  start =
-      record {
-        least = omega arith;
-        most = omega arith;
-        rest = ap (λ (n : ℕ). lowestRefusal check fails n 1) (omega arith);
-      }
+-- At the start,
+pub start : {check : ℕ} {fails : ℕ → Bool} {count : ℕ} → Counting check fails count 1
+start {check} {fails} {count} =
+    record {
+      least = omega arith;
+      most = omega arith;
+      rest = ap (λ (n : ℕ). lowestRefusal check fails n 1) (omega arith);
+    }
 
-  module _ {c : ℕ} (i : Counting check fails count c) where
-    pub end : count < c → Passes ≡ lowestRefusal check fails count 1
+module _ {check : ℕ} {fails : ℕ → Bool} {count c : ℕ} (i : Counting check fails count c) where
+  -- past the last number,
+  pub end : count < c → Passes ≡ lowestRefusal check fails count 1
+  unfolding lowestRefusal
+  end past =
+      let none : count + 1 - c ≡ 0 = omega arith in
+      sym (i .rest ∙ rw none)
+
+  module _ (within : c ≤ count) where
+    one-more : count + 1 - c ≡ suc (count - c)
+    one-more = omega arith
+
+    -- at a number that fails,
+    pub refused : fails c ≡ true → Refuses check c ≡ lowestRefusal check fails count 1
     unfolding lowestRefusal
-    end past =
-        let none : count + 1 - c ≡ 0 = omega (arith, i .most) in
-        sym (i .rest ∙ rw none)
+    refused e = sym (i .rest ∙ rw (one-more, e))
 
-    module _ (within : c ≤ count) where
-      one-more : count + 1 - c ≡ suc (count - c)
-      one-more = omega arith
-
-      pub refused : fails c ≡ true → Refuses check c ≡ lowestRefusal check fails count 1
-      unfolding lowestRefusal
-      refused e = sym (i .rest ∙ rw (one-more, e))
-
-      pub passed : fails c ≡ false → Counting check fails count (c + 1)
-      unfolding lowestRefusal
-      passed e =
-          let less : count + 1 - (c + 1) ≡ count - c = omega arith in
-          record {
-            least = omega arith;
-            most = omega arith;
-            rest = i .rest ∙ rw (one-more, e, less, add-one);
-          }
-
--- The check depends only on which of its numbers fail.
-pub same-refusal : (check : ℕ) (f g : ℕ → Bool) (count from : ℕ) → ((n : ℕ) → from ≤ n → n < from + count → f n ≡ g n)
-    → lowestRefusal check f count from ≡ lowestRefusal check g count from
-unfolding lowestRefusal
-same-refusal check f g zero from same = refl
-same-refusal check f g (suc count) from same =
-    rw (same from (omega arith) (omega arith), same-refusal check f g count (suc from) (λ n low high. same n (omega arith) (omega arith)))
+    -- and after one that does not.
+    pub passed : fails c ≡ false → Counting check fails count (c + 1)
+    unfolding lowestRefusal
+    passed e =
+        let less : count + 1 - (c + 1) ≡ count - c = omega arith in
+        record {
+          least = omega arith;
+          most = omega arith;
+          rest = i .rest ∙ rw (one-more, e, less, add-one);
+        }

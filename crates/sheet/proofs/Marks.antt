@@ -1,45 +1,35 @@
 -- How many records are not marked, and one mark more.
-use mathlib.Core.Path.{_≡_, refl}
-use mathlib.Core.Bool.{Bool, true, false, _||_}
+use Prim.Native.Nat.{ℕ, zero, suc, _+_, _-_, _≤_, _<_}
+use mathlib.Core.Bool.{Bool, true, false, not, _||_}
 use mathlib.Core.List.{List, [], _∷_}
-use Prim.Native.Nat.{ℕ, zero, suc, _-_, _≤_, _<_}
-use native.Mathlib.Nat.{le-of-suc-le-suc, not-suc-le-zero, le-refl}
+use mathlib.Core.Path.{_≡_, refl}
 use native.Mathlib.Omega.{arith}
-use borrow.Author.Tests.{eq-eqb, ne-eqb, eqb-true, eqb-false}
 use lib.Dec.{eqb}
 use lib.ListN.{length, getD, set, take, replicate, length-set, length-replicate, length-take, getD-replicate}
 use lib.Seq.{getD-set-same, getD-set-other, getD-take}
+use borrow.Author.Tests.{eq-eqb, ne-eqb, eqb-true, eqb-false}
 use Rattle.sheet.specs.Checks.{member}
 use Rattle.sheet.specs.Inner.{Marks, isMarked}
+use Rattle.sheet.proofs.Times.{bit, bit-le}
 
 -- ---- how many records are not marked
 
-abbrev one-if-not : Bool → ℕ → ℕ
-one-if-not true n = n
-one-if-not false n = suc n
-
 unfoldable pub unmarked : List ℕ → ℕ
 unmarked [] = 0
-unmarked (x ∷ l) = one-if-not (eqb x 1) (unmarked l)
+unmarked (x ∷ l) = bit (not (eqb x 1)) + unmarked l
 
-one-if-not-le : (b : Bool) (n m : ℕ) → n ≤ m → one-if-not b n ≤ suc m
-one-if-not-le true n m h = omega arith
-one-if-not-le false n m h = omega arith
-
-one-if-not-lt : (b : Bool) (n m : ℕ) → n < m → one-if-not b n < one-if-not b m
-one-if-not-lt true n m h = h
-one-if-not-lt false n m h = omega arith
-
+-- At most as many as there are marks;
 pub unmarked-le : (l : List ℕ) → unmarked l ≤ length l
 unfolding unmarked
-unmarked-le [] = le-refl 0
-unmarked-le (x ∷ l) = one-if-not-le (eqb x 1) (unmarked l) (length l) (unmarked-le l)
+unmarked-le [] = omega arith
+unmarked-le (x ∷ l) = omega (arith, bit-le (not (eqb x 1)), unmarked-le l)
 
+-- fewer, once another is marked.
 pub unmarked-falls : (l : List ℕ) (i : ℕ) → i < length l → (getD l i 0 ≡ 1 → ⊥) → unmarked (set l i 1) < unmarked l
 unfolding unmarked
-unmarked-falls [] i h f = absurd (not-suc-le-zero h)
+unmarked-falls [] i h f = absurd (omega arith)
 unmarked-falls (x ∷ l) zero h f = rw (ne-eqb _ _ f) (omega arith)
-unmarked-falls (x ∷ l) (suc i) h f = one-if-not-lt (eqb x 1) _ _ (unmarked-falls l i (le-of-suc-le-suc h) f)
+unmarked-falls (x ∷ l) (suc i) h f = omega (arith, unmarked-falls l i (omega arith) f)
 
 -- ---- one more mark
 
@@ -48,7 +38,8 @@ pub mark : {marks seen : List ℕ} {r : ℕ} → 1 ≤ r → r ≤ length marks 
 unfolding member
 mark {marks} {seen} {r} least most m = record { stand = λ q low high. go q low (rw length-set at high) (eqb q r) refl }
   where
-    go : (q : ℕ) → 1 ≤ q → q ≤ length marks → (b : Bool) → eqb q r ≡ b → isMarked (set marks (r - 1) 1) q ≡ (eqb q r || member q seen)
+    go : (q : ℕ) → 1 ≤ q → q ≤ length marks → (b : Bool) → eqb q r ≡ b
+        → isMarked (set marks (r - 1) 1) q ≡ (eqb q r || member q seen)
     go q low high true e =
         rw (e, eqb-true q r e) (eq-eqb _ _ (getD-set-same marks (r - 1) 1 0 (omega arith)))
     go q low high false e =

@@ -16,6 +16,10 @@ abbrev pub bit : Bool → ℕ
 bit true = 1
 bit false = 0
 
+pub bit-le : (b : Bool) → bit b ≤ 1
+bit-le true = omega arith
+bit-le false = omega arith
+
 -- How often x stands in a list.
 unfoldable pub times : ℕ → List ℕ → ℕ
 times x [] = 0

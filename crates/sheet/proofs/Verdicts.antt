@@ -1,17 +1,38 @@
--- Verdicts that pass, and a loop's steps through the numbers of a check.
-use Prim.Native.Nat.{ℕ, zero, suc, _+_, _-_, _≤_, _<_}
+-- Laws of verdicts: one after another, and the lowest number that fails.
+use Prim.Native.Nat.{ℕ, zero, suc, _+_, _≤_, _<_}
 use mathlib.Core.Bool.{Bool, true, false}
 use mathlib.Core.List.{List, _∷_}
 use mathlib.Core.Path.{_≡_, refl, ap, ap₂, _∙_}
-use native.Mathlib.Numerals.{add-one}
 use native.Mathlib.Omega.{arith}
 use lib.Dec.{eqb}
 use borrow.Author.Tests.{eqb-true, eqb-false}
-use Rattle.sheet.specs.declared.Verdict.{Verdict}
 use Rattle.sheet.specs.declared.Verdict.the-variants.{Passes, Refuses}
+use Rattle.sheet.specs.declared.Verdict.{Verdict}
 use Rattle.sheet.specs.Checks.{orElse, firstRefusal, refusesIf, lowestRefusal}
 
+-- No verdict both passes and refuses.
+pub not-both : {v : Verdict} {check place : ℕ} → v ≡ Passes → v ≡ Refuses check place → ⊥
+not-both p r = let z : _≡_ {A = ℕ} 0 1 = cc in omega arith
+
 -- ---- one verdict after another
+
+-- A verdict that passes leaves what follows it,
+pub passed-on : {v w : Verdict} → v ≡ Passes → orElse v w ≡ w
+passed-on e = rw e
+
+-- and one that refuses decides.
+pub refused-here : {v u : Verdict} (w : Verdict) {check place : ℕ} → v ≡ u → v ≡ Refuses check place → v ≡ orElse u w
+refused-here w same e = rw (← same, e)
+
+-- A pass at the end changes nothing,
+pub orElse-end : (v : Verdict) → orElse v Passes ≡ v
+orElse-end Passes = refl
+orElse-end (Refuses check place) = refl
+
+-- and three verdicts in a row may be read from either end.
+pub orElse-assoc : (u v w : Verdict) → orElse (orElse u v) w ≡ orElse u (orElse v w)
+orElse-assoc Passes v w = refl
+orElse-assoc (Refuses check place) v w = refl
 
 -- Where two verdicts pass in a row, each of them does;
 pub orElse-passes : (a b : Verdict) → orElse a b ≡ Passes → (a ≡ Passes) × (b ≡ Passes)
@@ -63,31 +84,6 @@ module _ (check : ℕ) (fails : ℕ → Bool) where
   passes-lowest (suc count) from h =
       passes-orElse _ _ (passes-refusesIf _ check from (h from (omega arith) (omega arith)))
       (passes-lowest count (suc from) (λ i low high. h i (omega arith) (omega arith)))
-
-  -- A loop that counts c from 1 up to `last`: at its start,
-  pub lowest-start : (last : ℕ) → lowestRefusal check fails last 1 ≡ lowestRefusal check fails (suc last - 1) 1
-  lowest-start last = let n : suc last - 1 ≡ last = omega arith in rw n
-
-  -- past its end,
-  pub lowest-done : (last c : ℕ) → last < c → lowestRefusal check fails (suc last - c) c ≡ Passes
-  unfolding lowestRefusal
-  lowest-done last c h = let z : suc last - c ≡ 0 = omega arith in rw z
-
-  lowest-step : (last c : ℕ) → c ≤ last
-      → lowestRefusal check fails (suc last - c) c ≡ orElse (refusesIf (fails c) check c) (lowestRefusal check fails (suc last - (c + 1)) (c + 1))
-  unfolding lowestRefusal
-  lowest-step last c h =
-      let n : suc last - c ≡ suc (suc last - (c + 1)) = omega arith in
-      rw (n, add-one)
-
-  -- at a c that fails,
-  pub lowest-here : (last c : ℕ) → c ≤ last → fails c ≡ true → lowestRefusal check fails (suc last - c) c ≡ Refuses check c
-  lowest-here last c h e = lowest-step last c h ∙ rw e
-
-  -- and at a c that does not.
-  pub lowest-next : (last c : ℕ) → c ≤ last → fails c ≡ false
-      → lowestRefusal check fails (suc last - c) c ≡ lowestRefusal check fails (suc last - (c + 1)) (c + 1)
-  lowest-next last c h e = lowest-step last c h ∙ rw e
 
   -- Another test that agrees on the range gives the same verdict.
   pub lowest-agrees : (other : ℕ → Bool) (count from : ℕ) → ((i : ℕ) → from ≤ i → i < from + count → fails i ≡ other i)

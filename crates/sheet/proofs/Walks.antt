@@ -1,13 +1,12 @@
 -- The walk along chains: its steps, and that its fuel never decides.
-use Prim.Native.Nat.{ℕ, zero, suc, _+_, _-_, _≤_, _<_}
+use Prim.Native.Nat.{ℕ, zero, suc, _+_, _≤_, _<_}
 use mathlib.Core.Bool.{Bool, true, false, cond}
 use mathlib.Core.List.{List, _∷_}
 use mathlib.Core.Path.{_≡_, refl}
-use native.Mathlib.Numerals.{add-one}
 use native.Mathlib.Omega.{arith}
 use lib.ListN.{length}
-use Rattle.sheet.specs.Format.{recordCount, headAt, nextAt}
-use Rattle.sheet.specs.Checks.{Walk, reached, twice, member, walkChain, walkChains}
+use Rattle.sheet.specs.Format.{recordCount, nextAt}
+use Rattle.sheet.specs.Checks.{reached, twice, member, walkChain, walkChains}
 use Rattle.sheet.proofs.Distinct.{Distinct, distinct-cons, distinct-length}
 
 -- Every record's next is a record or the zero.
@@ -28,6 +27,13 @@ module _ (s : List ℕ) where
   unfolding walkChain
   walk-twice fuel seen zero low there = absurd (omega arith)
   walk-twice fuel seen (suc r) low there = rw there
+
+  -- At a record that was not reached before.
+  pub walk-more : (fuel : ℕ) (seen : List ℕ) (r : ℕ) → 1 ≤ r → member r seen ≡ false
+      → walkChain s (suc fuel) seen r ≡ walkChain s fuel (r ∷ seen) (nextAt s r)
+  unfolding walkChain
+  walk-more fuel seen zero low new = absurd (omega arith)
+  walk-more fuel seen (suc r) low new = rw new
 
   module _ (linked : Linked s) where
     -- Fuel past the records that were not yet reached is enough.
@@ -52,15 +58,6 @@ module _ (s : List ℕ) where
         → walkChain s fuel seen r ≡ walkChain s (suc (recordCount s)) seen r
     walk-fuel fuel d r high enough = settled fuel (suc (recordCount s)) d r high (omega arith) (omega arith)
 
-    -- At a record that was not reached before.
-    pub walk-on : {seen : List ℕ} → Distinct (recordCount s) seen → (r : ℕ) → 1 ≤ r → r ≤ recordCount s → member r seen ≡ false
-        → walkChain s (suc (recordCount s)) seen r ≡ walkChain s (suc (recordCount s)) (r ∷ seen) (nextAt s r)
-    unfolding walkChain
-    walk-on d zero low high new = absurd (omega arith)
-    walk-on {seen} d (suc r) low high new =
-        rw new (settled (recordCount s) (suc (recordCount s)) (distinct-cons (suc r) low high new d) (nextAt s (suc r)) (linked (suc r) low high)
-        (omega arith) (omega arith))
-
 -- ---- chain after chain
 
 module _ (s : List ℕ) where
@@ -69,20 +66,3 @@ module _ (s : List ℕ) where
   unfolding walkChains
   chains-twice zero c r = refl
   chains-twice (suc count) c r = refl
-
-  -- A loop that counts c from 1 up to `last`: at its start,
-  pub chains-start : (last : ℕ) (walk : Walk) → walkChains s last 1 walk ≡ walkChains s (suc last - 1) 1 walk
-  chains-start last walk = let n : suc last - 1 ≡ last = omega arith in rw n
-
-  -- past its end,
-  pub chains-done : (last c : ℕ) (walk : Walk) → last < c → walkChains s (suc last - c) c walk ≡ walk
-  unfolding walkChains
-  chains-done last c walk h = let n : suc last - c ≡ 0 = omega arith in rw n
-
-  -- and at condition c.
-  pub chains-next : (last c : ℕ) (seen : List ℕ) → c ≤ last
-      → walkChains s (suc last - c) c (reached seen) ≡ walkChains s (suc last - (c + 1)) (c + 1) (walkChain s (suc (recordCount s)) seen (headAt s c))
-  unfolding walkChains
-  chains-next last c seen h =
-      let n : suc last - c ≡ suc (suc last - (c + 1)) = omega arith in
-      rw (n, add-one)

@@ -2,11 +2,10 @@
 ghost use mathlib.Core.Path.{_≡_};
 ghost use mathlib.Core.List.{List, []};
 ghost use Prim.Native.Nat.{ℕ, _≤_};
-ghost use Rattle.sheet.specs.Format.{recordCount};
-ghost use Rattle.sheet.specs.Inner.{HasHeader};
-ghost use Rattle.sheet.specs.Checks.{walked, orElse, check4, check5, check6, check7};
 ghost use Rattle.sheet.specs.declared.Verdict.the-variants.{Passes};
-ghost use Rattle.sheet.specs.Inner.{Marks, Walkable, WalkedTo, oneChain};
+ghost use Rattle.sheet.specs.Format.{recordCount};
+ghost use Rattle.sheet.specs.Checks.{walked, orElse, check4, check5, check6, check7};
+ghost use Rattle.sheet.specs.Inner.{HasHeader, Marks, Walkable, WalkedTo, oneChain};
 use crate::Condition;
 use crate::Header;
 use crate::Record;

@@ -47,6 +47,7 @@ pub enum Reading {
         place: u32,
     },
 }
+
 // The sheet reader: the header's counts, or the first check that fails, for any bytes at all.
 pub fn read(sheet: &[u8]) -> Reading
     ensures { λ r. ⌜ readingAnswer r ≡ readAnswer (now (sheet .entry)) ⌝ }

@@ -1,21 +1,16 @@
-use borrow.Author.Needs.{needs}
-use mathlib.Core.Path.{_≡_, sym, _∙_}
-use mathlib.Core.List.{List}
+-- `sheet::first_refusal` meets its contract: the checks stand in the table's order, and each is asked once those before it have passed.
 use Prim.Native.Nat.{ℕ}
-use Rattle.sheet.specs.declared.Verdict.{Verdict}
+use mathlib.Core.List.{List}
+use mathlib.Core.Path.{_≡_, sym, _∙_}
+use borrow.Author.Needs.{needs}
 use Rattle.sheet.specs.declared.Verdict.the-variants.{Passes}
-use Rattle.sheet.specs.Inner.{HasHeader}
+use Rattle.sheet.specs.declared.Verdict.{Verdict}
 use Rattle.sheet.specs.Checks.{orElse, firstRefusal, headerChecks, check4, check5, check6, check7, sheetVerdict}
-use Rattle.sheet.proofs.Passed.{passed-on, refused-here, long-enough, has-header, in-order}
+use Rattle.sheet.specs.Inner.{HasHeader}
+use Rattle.sheet.proofs.Verdicts.{passed-on, refused-here}
+use Rattle.sheet.proofs.Accepted.{in-order, header-whole, header-passed}
 use Rattle.sheet.proofs.first_refusal.Statement.{statement}
 use Rattle.sheet.proofs.first_refusal.Tie as tie
-use Rattle.sheet.proofs.first_refusal.Reads as reads
-use Rattle.sheet.proofs.first_refusal.Lts as lts
-use Rattle.sheet.proofs.chains.check.Reads as check-reads
-use Rattle.sheet.proofs.checks.header.Reads as header-reads
-use Rattle.sheet.proofs.checks.heads.Reads as heads-reads
-use Rattle.sheet.proofs.checks.records.Reads as records-reads
-use Rattle.sheet.proofs.format.header_of.Reads as header-of-reads
 
 -- The verdict of the checks from 4, from 5 and from 6 on.
 abbrev from6 : List ℕ → Verdict
@@ -41,7 +36,7 @@ counted : (c : tie.After-enum-told2) → firstRefusal (headerChecks (bytes c)) �
 counted c = sym (c .before .before .header .ensures) ∙ c .enum-told2 .given .1
 
 has : (c : tie.After-header-of) → HasHeader (bytes (c .before)) (c .header-of .result)
-has c = has-header (bytes (c .before)) (counted (c .before)) (c .header-of .ensures)
+has c = rw (c .header-of .ensures) (header-passed (bytes (c .before)) (counted (c .before)))
 
 headed : (c : tie.After-enum-told4) → check4 (bytes4 c) ≡ Passes
 headed c = sym (c .before .before .heads .ensures) ∙ c .enum-told4 .given .1
@@ -59,15 +54,12 @@ after-heads c = after-header (c .before .before .before .before) ∙ passed-on (
 after-records : (c : tie.After-enum-told6) → sheetVerdict (bytes6 c) ≡ from6 (bytes6 c)
 after-records c = after-heads (c .before .before .before) ∙ passed-on (formed c)
 
--- src/lib.rt:54:9
 header-requires : tie.Need-header-requires
 header-requires c κs = search needs
 
--- src/lib.rt:56:9
 enum-told : tie.Need-enum-told
 enum-told c = search needs
 
--- src/lib.rt:56:9
 returns : tie.Need-returns
 returns c =
     let s : List ℕ = c .before .before .before .before .args .sheet .now in
@@ -76,19 +68,15 @@ returns c =
 enum-told-2 : tie.Need-enum-told-2
 enum-told-2 c = search needs
 
--- src/lib.rt:58:9
 header-of-requires : tie.Need-header-of-requires
-header-of-requires c κs = long-enough (bytes c) (counted c)
+header-of-requires c κs = header-whole (header-passed (bytes c) (counted c))
 
--- src/lib.rt:59:9
 heads-requires : tie.Need-heads-requires
 heads-requires c κs = has c
 
--- src/lib.rt:61:9
 enum-told-3 : tie.Need-enum-told-3
 enum-told-3 c = search needs
 
--- src/lib.rt:61:9
 returns-2 : tie.Need-returns-2
 returns-2 c =
     let h = c .before .before .before .before in
@@ -97,15 +85,12 @@ returns-2 c =
 enum-told-4 : tie.Need-enum-told-4
 enum-told-4 c = search needs
 
--- src/lib.rt:63:9
 records-requires : tie.Need-records-requires
 records-requires c κs = has (c .before .before .before)
 
--- src/lib.rt:65:9
 enum-told-5 : tie.Need-enum-told-5
 enum-told-5 c = search needs
 
--- src/lib.rt:65:9
 returns-3 : tie.Need-returns-3
 returns-3 c =
     let h = c .before .before .before in
@@ -114,13 +99,11 @@ returns-3 c =
 enum-told-6 : tie.Need-enum-told-6
 enum-told-6 c = search needs
 
--- src/lib.rt:67:5
 check-requires : tie.Need-check-requires
 check-requires c κs =
     let h = c .before .before .before in
     (has (h .before .before .before), headed h, formed c)
 
--- src/lib.rt:51:1
 returns-4 : tie.Need-returns-4
 returns-4 c = c .check .ensures ∙ sym (after-records (c .before))
 

@@ -1,43 +1,34 @@
-use borrow.Author.Needs.{needs}
-use mathlib.Core.Path.{sym, _∙_}
-use mathlib.Core.List.{List}
+-- `sheet::read` meets its contract: a refusal is answered as it is, and a sheet that passes has the six bytes of its header.
 use Prim.Native.Nat.{ℕ}
+use mathlib.Core.List.{List}
+use mathlib.Core.Path.{sym, _∙_}
+use borrow.Author.Needs.{needs}
 use Rattle.sheet.specs.Answers.{readAnswer}
-use Rattle.sheet.proofs.Passed.{long-enough, header-passed}
+use Rattle.sheet.proofs.Accepted.{header-whole, sound}
 use Rattle.sheet.proofs.read.Statement.{statement}
 use Rattle.sheet.proofs.read.Tie as tie
-use Rattle.sheet.proofs.read.Reads as reads
-use Rattle.sheet.proofs.read.Lts as lts
-use Rattle.sheet.proofs.first_refusal.Reads as first-refusal-reads
-use Rattle.sheet.proofs.format.header_of.Reads as header-of-reads
 
--- src/lib.rt:54:9
 first-refusal-requires : tie.Need-first-refusal-requires
 first-refusal-requires c κs = search needs
 
--- src/lib.rt:56:26
 enum-known-v : tie.Need-enum-known-v
 enum-known-v c = search needs
 
--- src/lib.rt:58:17
 enum-told : tie.Need-enum-told
 enum-told c = search needs
 
--- src/lib.rt:58:17
 header-of-requires : tie.Need-header-of-requires
 header-of-requires c κs =
     let v = c .before .before in
     let s : List ℕ = v .before .before .args .sheet .now in
-    long-enough s (header-passed s (sym (v .first-refusal .ensures) ∙ c .enum-told .given .1))
+    header-whole (sound s (sym (v .first-refusal .ensures) ∙ c .enum-told .given .1) .header)
 
--- src/lib.rt:51:1
 returns : tie.Need-returns
 unfolding readAnswer
 returns c =
     let v = c .before .before .before in
     rw (sym (v .first-refusal .ensures) ∙ c .before .v .given .1)
 
--- src/lib.rt:51:1
 returns-2 : tie.Need-returns-2
 unfolding readAnswer
 returns-2 c =

@@ -1,45 +1,44 @@
-use borrow.Author.Needs.{needs}
-use mathlib.Core.Path.{_≡_, sym, _∙_}
-use mathlib.Core.List.{List}
+-- `sheet::chains::check` meets its contract: k zeros are marks of which none is set, and checks 1 to 5 make the sheet one to walk.
 use Prim.Native.Nat.{ℕ, _≤_}
+use mathlib.Core.List.{List}
+use mathlib.Core.Path.{sym, _∙_}
 use native.Mathlib.Omega.{arith}
-use Rattle.sheet.specs.Format.{recordCount}
-use Rattle.sheet.proofs.Headers.{records-counted}
+use borrow.Author.Needs.{needs}
+use Rattle.sheet.proofs.Accepted.{records-counted, heads-found, records-found}
 use Rattle.sheet.proofs.Marks.{zeros-length, none-marked}
-use Rattle.sheet.proofs.Passed.{walkable}
 use Rattle.sheet.proofs.chains.check.Statement.{statement}
 use Rattle.sheet.proofs.chains.check.Tie as tie
-use Rattle.sheet.proofs.chains.check.Reads as reads
-use Rattle.sheet.proofs.chains.check.Lts as lts
-use Rattle.sheet.proofs.chains.reached_once.Reads as reached-once-reads
 
--- src/chains.rt:71:13
+-- The marks have room for every record.
+few : (a : tie.Start) → a .args .h .records ≤ 1024
+few a = omega (arith, a .pre .0 .records, records-counted (a .pre .0))
+
 cast-k : tie.Need-cast-k
 cast-k c = search needs
 
--- src/chains.rt:73:28
 array-borrow-prefix-marks : tie.Need-array-borrow-prefix-marks
-array-borrow-prefix-marks c =
-    let a = c .before .before in
-    omega (arith, a .pre .0 .records, records-counted (a .args .sheet .now) (a .pre .0))
+array-borrow-prefix-marks c = few (c .before .before)
 
--- src/chains.rt:73:28
 slice-aggregate-reached-once : tie.Need-slice-aggregate-reached-once
 slice-aggregate-reached-once c =
     let a = c .before .before .before in
-    sym (zeros-length 1024 (a .args .h .records) (omega (arith, a .pre .0 .records, records-counted (a .args .sheet .now) (a .pre .0))))
+    sym (zeros-length 1024 (a .args .h .records) (few a))
 
--- src/chains.rt:73:5
 reached-once-requires : tie.Need-reached-once-requires
 reached-once-requires c κs =
     let a = c .before .before .before in
     let s : List ℕ = a .args .sheet .now in
     let k : ℕ = a .args .h .records in
-    let counted : k ≡ recordCount s = records-counted s (a .pre .0) in
-    let within : k ≤ 1024 = omega (arith, a .pre .0 .records) in
-    (walkable s (a .pre .0) (a .pre .1) (a .pre .2) (zeros-length 1024 k within ∙ counted), none-marked 1024 k within)
+    let (has, four, five) = a .pre in (
+      record {
+        header = has;
+        room = zeros-length 1024 k (few a) ∙ records-counted has;
+        heads = heads-found s four;
+        nexts = λ r low high. records-found s five r low high .next;
+      },
+      none-marked 1024 k (few a),
+    )
 
--- src/chains.rt:67:1
 returns : tie.Need-returns
 returns c = search needs
 

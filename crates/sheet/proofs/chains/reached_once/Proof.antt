@@ -1,51 +1,41 @@
-use borrow.Author.Needs.{needs}
+-- `sheet::chains::reached_once` meets its contract: where the walk refuses, check 6 does; where it passes, the marks are what check 7 asks of.
 use mathlib.Core.Path.{_∙_}
-use Rattle.sheet.proofs.Walking.{walk-refused, walk-passed}
+use borrow.Author.Needs.{needs}
+use Rattle.sheet.proofs.WalkLoops.{walk-refused, walk-passed}
 use Rattle.sheet.proofs.chains.reached_once.Statement.{statement}
 use Rattle.sheet.proofs.chains.reached_once.Tie as tie
-use Rattle.sheet.proofs.chains.reached_once.Reads as reads
-use Rattle.sheet.proofs.chains.reached_once.Lts as lts
-use Rattle.sheet.proofs.chains.walk.Reads as walk-reads
-use Rattle.sheet.proofs.checks.reached.Reads as reached-reads
 
--- src/chains.rt:58:9
 walk-requires : tie.Need-walk-requires
 walk-requires c κs = search needs
 
--- src/chains.rt:60:9
 enum-told : tie.Need-enum-told
 enum-told c = search needs
 
--- src/chains.rt:60:9
 same-length : tie.Need-same-length
 same-length c = search needs
 
--- src/chains.rt:60:9
 returns : tie.Need-returns
 returns c =
     let w = c .before .before .before .before in
     let a = w .before .before .before .before in
-    walk-refused (a .args .sheet .now) (w .walk .result) (c .enum-told .given .1) (w .walk .last .1 .1 .0) (w .walk .ensures)
+    walk-refused (a .args .sheet .now) (c .enum-told .given .1) (w .walk .last .1 .1 .0) (w .walk .ensures)
 
 enum-told-2 : tie.Need-enum-told-2
 enum-told-2 c = search needs
 
--- src/chains.rt:62:5
 reached-requires : tie.Need-reached-requires
 reached-requires c κs = search needs
 
--- src/chains.rt:54:1
 same-length-2 : tie.Need-same-length-2
 same-length-2 c = search needs
 
--- src/chains.rt:54:1
 returns-2 : tie.Need-returns-2
 returns-2 c =
     let t = c .before .before in
     let w = t .before .before .before .before in
     let a = w .before .before .before .before in
     c .reached .ensures
-    ∙ walk-passed (a .args .sheet .now) (w .walk .result) (t .enum-told2 .given .1) (w .walk .last .1 .1 .0)
+    ∙ walk-passed (a .args .sheet .now) (t .enum-told2 .given .1) (w .walk .last .1 .1 .0)
     (w .walk .kept .1 .1 .0 ∙ a .pre .0 .room) (w .walk .ensures)
 
 pub reached-once-spec : {M : Type 1} → statement M

@@ -1,19 +1,18 @@
-use borrow.Author.Needs.{needs}
-use borrow.Author.Tests.{lt-ltb, le-ltb}
+-- `sheet::checks::heads` meets its contract. The loop's invariant: no head before the present condition is above k.
+-- The measure is how many conditions are left.
+use Prim.Native.Nat.{ℕ, _+_, _-_, _≤_}
 use mathlib.Core.Bool.{Bool}
 use mathlib.Core.List.{List}
-use Prim.Native.Nat.{ℕ, _+_, _-_}
 use native.Mathlib.Omega.{arith}
 use lib.Dec.{ltb}
+use borrow.Author.Needs.{needs}
+use borrow.Author.Tests.{lt-ltb, le-ltb}
 use Rattle.sheet.specs.Format.{conditionCount, recordCount, headAt}
 use Rattle.sheet.specs.Checks.{check4}
-use Rattle.sheet.proofs.Headers.{conditions-counted, records-counted}
 use Rattle.sheet.proofs.Loops.{Counting, start, end, refused, passed}
+use Rattle.sheet.proofs.Accepted.{conditions-counted, records-counted}
 use Rattle.sheet.proofs.checks.heads.Statement.{statement}
 use Rattle.sheet.proofs.checks.heads.Tie as tie
-use Rattle.sheet.proofs.checks.heads.Reads as reads
-use Rattle.sheet.proofs.checks.heads.Lts as lts
-use Rattle.sheet.proofs.format.head_at.Reads as head-at-reads
 
 abbrev aboveRecords : List ℕ → ℕ → Bool
 aboveRecords s c = ltb (recordCount s) (headAt s c)
@@ -24,64 +23,51 @@ Inv-loop sheet h m c₀ c = Counting 4 (aboveRecords sheet) (conditionCount shee
 abbrev μ-loop : tie.MeasureT-loop
 μ-loop sheet h m c₀ c = m + 1 - c
 
--- src/checks.rt:45:5
+-- In a turn the condition is one of the sheet's.
+in-range : (c : tie.In-loop Inv-loop μ-loop) → c .before .loop .c ≤ conditionCount (c .before .before .before .args .sheet .now)
+in-range c = omega (arith, conditions-counted (c .before .before .before .pre))
+
 loop-holds : tie.Need-loop-holds Inv-loop μ-loop
-loop-holds c =
-    let s : List ℕ = c .before .args .sheet .now in
-    start 4 (aboveRecords s) (conditionCount s)
+loop-holds c = start
 
--- src/checks.rt:46:13
 head-at-requires : tie.Need-head-at-requires Inv-loop μ-loop
-head-at-requires c κs =
-    let a = c .before .before .before in
-    omega (arith, conditions-counted (a .args .sheet .now) (a .pre))
+head-at-requires c κs = omega (arith, in-range c)
 
--- src/checks.rt:48:40
 cast-t8 : tie.Need-cast-t8 Inv-loop μ-loop
-cast-t8 c =
-    let a = c .before .before .before .before .before .before .before in
-    omega (arith, conditions-counted (a .args .sheet .now) (a .pre))
+cast-t8 c = search needs
 
--- src/checks.rt:48:13
 returns : tie.Need-returns Inv-loop μ-loop
 unfolding check4
 returns c =
     let b = c .before .before .before in
-    let l = b .before .before in
+    let t = b .before in
+    let l = t .before in
     let a = l .before .before in
     let s : List ℕ = a .args .sheet .now in
-    refused 4 (aboveRecords s) (conditionCount s) (l .loop .inv)
-    (omega (arith, conditions-counted s (a .pre)))
-    (lt-ltb (recordCount s) (headAt s (l .loop .c)) (omega (arith, records-counted s (a .pre), b .head-at .ensures)))
+    refused (l .loop .inv) (in-range t)
+    (lt-ltb (recordCount s) (headAt s (l .loop .c)) (omega (arith, records-counted (a .pre), b .head-at .ensures)))
 
--- src/checks.rt:50:9
 add-c : tie.Need-add-c Inv-loop μ-loop
-add-c c =
-    let a = c .before .before .before .before .before .before .before in
-    omega (arith, conditions-counted (a .args .sheet .now) (a .pre))
+add-c c = search needs
 
--- src/checks.rt:45:5
 loop-less : tie.Need-loop-less Inv-loop μ-loop
 loop-less c = search needs
 
--- src/checks.rt:45:5
 loop-again : tie.Need-loop-again Inv-loop μ-loop
 loop-again c =
     let b = c .before .before .before in
-    let l = b .before .before in
+    let t = b .before in
+    let l = t .before in
     let a = l .before .before in
     let s : List ℕ = a .args .sheet .now in
-    passed 4 (aboveRecords s) (conditionCount s) (l .loop .inv)
-    (omega (arith, conditions-counted s (a .pre)))
-    (le-ltb (recordCount s) (headAt s (l .loop .c)) (omega (arith, records-counted s (a .pre), b .head-at .ensures)))
+    passed (l .loop .inv) (in-range t)
+    (le-ltb (recordCount s) (headAt s (l .loop .c)) (omega (arith, records-counted (a .pre), b .head-at .ensures)))
 
--- src/checks.rt:39:1
 returns-2 : tie.Need-returns-2 Inv-loop μ-loop
 unfolding check4
 returns-2 c =
-    let a = c .before .before .before in
-    let s : List ℕ = a .args .sheet .now in
-    end 4 (aboveRecords s) (conditionCount s) (c .before .loop .inv) (omega (arith, conditions-counted s (a .pre)))
+    let l = c .before in
+    end (l .loop .inv) (omega (arith, conditions-counted (l .before .before .pre)))
 
 pub heads-spec : {M : Type 1} → statement M
 heads-spec =

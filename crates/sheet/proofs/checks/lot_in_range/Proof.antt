@@ -1,15 +1,11 @@
-use borrow.Author.Needs.{needs}
+-- `sheet::checks::lot_in_range` meets its contract: the first test decides, or else the second.
 use borrow.Author.Tests.{le-leb, lt-leb}
 use Rattle.sheet.proofs.checks.lot_in_range.Statement.{statement}
 use Rattle.sheet.proofs.checks.lot_in_range.Tie as tie
-use Rattle.sheet.proofs.checks.lot_in_range.Reads as reads
-use Rattle.sheet.proofs.checks.lot_in_range.Lts as lts
 
--- src/checks.rt:86:1
 returns : tie.Need-returns
 returns c = simp (le-leb _ _ (c .before .before .if1 .taken))
 
--- src/checks.rt:86:1
 returns-2 : tie.Need-returns-2
 returns-2 c = simp (lt-leb _ _ (c .if1 .left))
 

@@ -1,18 +1,17 @@
-use borrow.Author.Needs.{needs}
-use mathlib.Core.Path.{sym, ap, _∙_}
+-- `sheet::checks::records` meets its contract. The loop's invariant: each record before the present one is well formed.
+-- The measure is how many records are left.
+use Prim.Native.Nat.{ℕ, _+_, _-_, _≤_}
 use mathlib.Core.Bool.{Bool, not}
 use mathlib.Core.List.{List}
-use Prim.Native.Nat.{ℕ, _+_, _-_}
+use mathlib.Core.Path.{sym, ap, _∙_}
 use native.Mathlib.Omega.{arith}
+use borrow.Author.Needs.{needs}
 use Rattle.sheet.specs.Format.{recordCount}
 use Rattle.sheet.specs.Checks.{check5, wellFormed}
-use Rattle.sheet.proofs.Headers.{conditions-counted, records-counted}
 use Rattle.sheet.proofs.Loops.{Counting, start, end, refused, passed}
+use Rattle.sheet.proofs.Accepted.{conditions-counted, records-counted, has-record}
 use Rattle.sheet.proofs.checks.records.Statement.{statement}
 use Rattle.sheet.proofs.checks.records.Tie as tie
-use Rattle.sheet.proofs.checks.records.Reads as reads
-use Rattle.sheet.proofs.checks.records.Lts as lts
-use Rattle.sheet.proofs.checks.well_formed.Reads as well-formed-reads
 
 abbrev badlyFormed : List ℕ → ℕ → Bool
 badlyFormed s r = not (wellFormed s r)
@@ -23,69 +22,44 @@ Inv-loop sheet h k r₀ r = Counting 5 (badlyFormed sheet) (recordCount sheet) r
 abbrev μ-loop : tie.MeasureT-loop
 μ-loop sheet h k r₀ r = k + 1 - r
 
--- src/checks.rt:62:5
-loop-holds : tie.Need-loop-holds Inv-loop μ-loop
-loop-holds c =
-    let s : List ℕ = c .before .args .sheet .now in
-    start 5 (badlyFormed s) (recordCount s)
+-- In a turn the record is one of the sheet's.
+in-range : (c : tie.In-loop Inv-loop μ-loop) → c .before .loop .r ≤ recordCount (c .before .before .before .args .sheet .now)
+in-range c = omega (arith, records-counted (c .before .before .before .pre))
 
--- src/checks.rt:63:13
+loop-holds : tie.Need-loop-holds Inv-loop μ-loop
+loop-holds c = start
+
 well-formed-requires : tie.Need-well-formed-requires Inv-loop μ-loop
 well-formed-requires c κs =
-    let a = c .before .before .before in
-    let s : List ℕ = a .args .sheet .now in (
-      a .pre .counts,
-      record {
-        counted = conditions-counted s (a .pre);
-        least = c .before .loop .inv .least;
-        whole = omega (arith, conditions-counted s (a .pre), records-counted s (a .pre));
-      },
-    )
+    let l = c .before in
+    let has = l .before .before .pre in
+    (has .counts, rw (conditions-counted has) (has-record has (l .loop .r) (l .loop .inv .least) (in-range c)))
 
--- src/checks.rt:64:40
 cast-t8 : tie.Need-cast-t8 Inv-loop μ-loop
-cast-t8 c =
-    let a = c .before .before .before .before .before in
-    omega (arith, records-counted (a .args .sheet .now) (a .pre))
+cast-t8 c = search needs
 
--- src/checks.rt:64:13
 returns : tie.Need-returns Inv-loop μ-loop
 unfolding check5
 returns c =
-    let l = c .before .before .before in
-    let a = l .before .before in
-    let s : List ℕ = a .args .sheet .now in
-    refused 5 (badlyFormed s) (recordCount s) (l .loop .inv)
-    (omega (arith, records-counted s (a .pre)))
-    (ap not (sym (c .before .well-formed .ensures)) ∙ c .if1 .taken)
+    let t = c .before .before in
+    refused (t .before .loop .inv) (in-range t) (ap not (sym (c .before .well-formed .ensures)) ∙ c .if1 .taken)
 
--- src/checks.rt:66:9
 add-r : tie.Need-add-r Inv-loop μ-loop
-add-r c =
-    let a = c .before .before .before .before .before in
-    omega (arith, records-counted (a .args .sheet .now) (a .pre))
+add-r c = search needs
 
--- src/checks.rt:62:5
 loop-less : tie.Need-loop-less Inv-loop μ-loop
 loop-less c = search needs
 
--- src/checks.rt:62:5
 loop-again : tie.Need-loop-again Inv-loop μ-loop
 loop-again c =
-    let l = c .before .before .before in
-    let a = l .before .before in
-    let s : List ℕ = a .args .sheet .now in
-    passed 5 (badlyFormed s) (recordCount s) (l .loop .inv)
-    (omega (arith, records-counted s (a .pre)))
-    (ap not (sym (c .before .well-formed .ensures)) ∙ c .if1 .left)
+    let t = c .before .before in
+    passed (t .before .loop .inv) (in-range t) (ap not (sym (c .before .well-formed .ensures)) ∙ c .if1 .left)
 
--- src/checks.rt:56:1
 returns-2 : tie.Need-returns-2 Inv-loop μ-loop
 unfolding check5
 returns-2 c =
-    let a = c .before .before .before in
-    let s : List ℕ = a .args .sheet .now in
-    end 5 (badlyFormed s) (recordCount s) (c .before .loop .inv) (omega (arith, records-counted s (a .pre)))
+    let l = c .before in
+    end (l .loop .inv) (omega (arith, records-counted (l .before .before .pre)))
 
 pub records-spec : {M : Type 1} → statement M
 records-spec =

@@ -1,78 +1,69 @@
+-- `sheet::checks::well_formed` meets its contract: of the five tests the first that fails decides, or else the last one.
+use mathlib.Core.Bool.{and-false}
+use mathlib.Core.Path.{_≡_, sym, _∙_}
 use borrow.Author.Needs.{needs}
 use borrow.Author.Tests.{not-true, not-false, eq-eqb, ne-eqb}
-use mathlib.Core.Path.{sym, _∙_}
-use Rattle.sheet.proofs.Formed.{bad-sign, bad-spare, bad-first-lot, bad-second-lot, by-next}
+use Rattle.sheet.specs.Format.{spareAt}
+use Rattle.sheet.specs.Checks.{wellFormed}
+use Rattle.sheet.proofs.Tests.{recordTests, record-by-tests}
 use Rattle.sheet.proofs.checks.well_formed.Statement.{statement}
 use Rattle.sheet.proofs.checks.well_formed.Tie as tie
-use Rattle.sheet.proofs.checks.well_formed.Reads as reads
-use Rattle.sheet.proofs.checks.well_formed.Lts as lts
-use Rattle.sheet.proofs.checks.lot_in_range.Reads as lot-in-range-reads
-use Rattle.sheet.proofs.checks.sign_known.Reads as sign-known-reads
-use Rattle.sheet.proofs.format.spare_at.Reads as spare-at-reads
-use Rattle.sheet.proofs.format.term_at.Reads as term-at-reads
 
--- src/checks.rt:76:9
+-- Once the term is read, the five tests on it decide.
+by-tests : (c : tie.After-term-at)
+    → let a = c .before .before .args in
+    wellFormed (a .sheet .now) (a .r .0) ≡ recordTests (a .h) (c .term-at .result) (spareAt (a .sheet .now) (a .r .0))
+by-tests c =
+    let a = c .before .before in
+    record-by-tests (a .args .sheet .now) (a .args .r .0) (a .pre .0) (c .term-at .ensures)
+
 term-at-requires : tie.Need-term-at-requires
 term-at-requires c κs = search needs
 
--- src/checks.rt:77:9
 sign-known-requires : tie.Need-sign-known-requires
 sign-known-requires c κs = search needs
 
--- src/checks.rt:78:9
 returns : tie.Need-returns
 returns c =
-    let t = c .before .before in
-    let a = t .before .before in
-    bad-sign (a .args .sheet .now) (a .args .r .0) (a .pre .0) (t .term-at .ensures) (sym (c .before .sign-known .ensures) ∙ not-true _ (c .if1 .taken))
+    sym (by-tests (c .before .before) ∙ simp (sym (c .before .sign-known .ensures) ∙ not-true _ (c .if1 .taken)))
 
--- src/checks.rt:80:8
 spare-at-requires : tie.Need-spare-at-requires
 spare-at-requires c κs = search needs
 
--- src/checks.rt:81:9
 returns-2 : tie.Need-returns-2
 returns-2 c =
-    let t = c .before .before .before .before in
-    let a = t .before .before in
-    bad-spare (a .args .sheet .now) (a .args .r .0) (a .pre .0) (t .term-at .ensures) (ne-eqb _ _ (λ z. c .if2 .taken (c .before .spare-at .ensures ∙ z)))
+    let other = ne-eqb _ _ (λ z. c .if2 .taken (c .before .spare-at .ensures ∙ z)) in
+    sym (by-tests (c .before .before .before .before) ∙ simp (other, and-false))
 
--- src/checks.rt:83:9
 lot-in-range-requires : tie.Need-lot-in-range-requires
 lot-in-range-requires c κs = search needs
 
--- src/checks.rt:84:9
 returns-3 : tie.Need-returns-3
 returns-3 c =
     let t = c .before .before .before .before .before .before in
-    let a = t .before .before in
-    bad-first-lot (a .args .sheet .now) (a .args .r .0) (a .pre .0) (t .term-at .ensures) (sym (c .before .lot-in-range .ensures) ∙ not-true _ (c .if3 .taken))
+    sym (by-tests t ∙ simp (sym (c .before .lot-in-range .ensures) ∙ not-true _ (c .if3 .taken), and-false))
 
--- src/checks.rt:86:9
 lot-in-range-requires-2 : tie.Need-lot-in-range-requires-2
 lot-in-range-requires-2 c κs = search needs
 
--- src/checks.rt:87:9
 returns-4 : tie.Need-returns-4
 returns-4 c =
     let t = c .before .before .before .before .before .before .before .before in
-    let a = t .before .before in
-    bad-second-lot (a .args .sheet .now) (a .args .r .0) (a .pre .0) (t .term-at .ensures) (sym (c .before .lot-in-range2 .ensures) ∙ not-true _ (c .if4 .taken))
+    sym (by-tests t ∙ simp (sym (c .before .lot-in-range2 .ensures) ∙ not-true _ (c .if4 .taken), and-false))
 
--- src/checks.rt:72:1
 returns-5 : tie.Need-returns-5
 returns-5 c =
     let fourth = c .before .before in
     let third = fourth .before .before in
     let second = third .before .before in
     let first = second .before .before in
-    let t = first .before .before in
-    let a = t .before .before in
-    by-next (a .args .sheet .now) (a .args .r .0) (a .pre .0) (t .term-at .ensures)
-    (sym (first .before .sign-known .ensures) ∙ not-false _ (first .if1 .left))
-    (eq-eqb _ _ (sym (second .before .spare-at .ensures) ∙ second .if2 .left))
-    (sym (third .before .lot-in-range .ensures) ∙ not-false _ (third .if3 .left))
-    (sym (fourth .before .lot-in-range2 .ensures) ∙ not-false _ (fourth .if4 .left))
+    sym (by-tests (first .before .before)
+    ∙ simp (
+      sym (first .before .sign-known .ensures) ∙ not-false _ (first .if1 .left),
+      eq-eqb _ _ (sym (second .before .spare-at .ensures) ∙ second .if2 .left),
+      sym (third .before .lot-in-range .ensures) ∙ not-false _ (third .if3 .left),
+      sym (fourth .before .lot-in-range2 .ensures) ∙ not-false _ (fourth .if4 .left),
+    ))
 
 pub well-formed-spec : {M : Type 1} → statement M
 well-formed-spec =

@@ -31,8 +31,9 @@ number-at-requires-3 c κs = search needs
 returns : tie.Need-returns
 unfolding signAt firstLotAt secondLotAt nextAt
 returns c =
-    let place = c .before .before .before .before in
-    rw (c .before .before .number-at .ensures, c .before .number-at2 .ensures, c .number-at3 .ensures, place .record-place .ensures, place .before .before .pre .counted)
+    let p = c .before .before .before .before in
+    rw (c .before .before .number-at .ensures, c .before .number-at2 .ensures, c .number-at3 .ensures)
+    (rw (p .record-place .ensures, p .before .before .pre .counted))
 
 pub term-at-spec : {M : Type 1} → statement M
 term-at-spec =
