@@ -1,6 +1,6 @@
 -- Two assignments that agree on the lots of a sheet meet the same conditions.
 use Prim.Native.Nat.{ℕ, suc}
-use mathlib.Core.Bool.{Bool, cond, not, _||_}
+use mathlib.Core.Bool.{not, _||_}
 use mathlib.Core.List.{List, [], _∷_}
 use mathlib.Core.Path.{_≡_, refl, ap, ap₂}
 use lib.Dec.{eqb}

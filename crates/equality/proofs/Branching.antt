@@ -1,7 +1,7 @@
 -- The nodes are at most 2 × P − 1 (theorem 5). φ is the product over the conditions without a true term of one plus their open "same" terms: the
 -- same branch drops the taken condition's factor 1 + w to 1, the apart branch to at most w, and no other factor grows.
-use Prim.Native.Nat.{ℕ, zero, suc, _+_, _*_, _≤_, _<_}
-use mathlib.Core.Bool.{Bool, true, false, cond, _||_, or-true, false≢true}
+use Prim.Native.Nat.{ℕ, suc, _+_, _*_, _≤_, _<_}
+use mathlib.Core.Bool.{Bool, true, false, cond, or-true, false≢true}
 use mathlib.Core.List.{List, [], _∷_, _++_}
 use mathlib.Core.Path.{_≡_, refl, sym, ap, _∙_}
 use native.Mathlib.Nat.{le-refl, mul-add, add-mul, mul-le-mul, mul-pos}

@@ -1,18 +1,15 @@
 -- The evaluator's answer (theorem 8): 0 exactly when the numbers that it reads meet the conditions, else the lowest condition that they don't.
-use Prim.Native.Nat.{ℕ, zero, suc, _+_, _-_, _≤_, _<_}
+use Prim.Native.Nat.{ℕ, suc, _+_, _-_, _≤_, _<_}
 use mathlib.Core.Bool.{Bool, true, false, cond, _&&_, false≢true}
 use mathlib.Core.List.{List, [], _∷_}
 use mathlib.Core.Logic.{_↔_}
-use mathlib.Core.Path.{_≡_, refl, sym, ap, _∙_}
+use mathlib.Core.Path.{_≡_, refl}
 use native.Mathlib.Omega.{arith}
 use borrow.Author.Tests.{eqb-true, eqb-false}
 use lib.Dec.{eqb}
 use lib.ListN.{length, getD}
-use Rattle.sheet.specs.Conditions.{Term, same, apart}
-use Rattle.sheet.proofs.Ranges.{All}
-use Rattle.sheet.proofs.Accepted.{InLots}
-use Rattle.sheet.proofs.Conditions.{TermIn}
-use Rattle.equality.specs.Meaning.{MeetsAll, holds, meetsCondition, meetsAll, someTerm, anyTerm}
+use Rattle.sheet.specs.Conditions.{Term}
+use Rattle.equality.specs.Meaning.{MeetsAll, meetsCondition, meetsAll}
 use Rattle.equality.specs.Evaluator.{lowestUnmet}
 use Rattle.equality.proofs.Meaning.{all-decides}
 

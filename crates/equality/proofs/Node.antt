@@ -1,13 +1,12 @@
 -- The node rule by classes: which condition is taken, and which of its terms are open. The laws hold for all decisions, contradictory ones too.
 use Prim.Native.Nat.{ℕ, suc}
-use mathlib.Core.Bool.{Bool, true, false, cond, not, _||_, false≢true}
+use mathlib.Core.Bool.{Bool, true, false, cond, not, false≢true}
 use mathlib.Core.List.{List, [], _∷_, _++_}
 use mathlib.Core.Logic.{_≢_}
 use mathlib.Core.Path.{_≡_, refl, sym, ap, _∙_}
-use lib.Dec.{eqb}
 use Rattle.sheet.specs.Conditions.{Term, same, apart}
 use Rattle.sheet.proofs.Ranges.{All}
-use Rattle.equality.specs.Meaning.{holds, meetsCondition, meetsAll}
+use Rattle.equality.specs.Meaning.{holds, meetsCondition}
 use Rattle.equality.specs.Node.{Decisions, classes, smallestLot, share, markedApart, Value, isTrue, isFalse, isOpen, value, trueOrOpenApart, Taken, noCondition, takes, passedOver, taken, openOr, groundOrSplit}
 use Rattle.equality.proofs.Some.{some-agrees, some-none}
 use Rattle.equality.proofs.Small.{all-map}

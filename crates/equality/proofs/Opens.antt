@@ -1,5 +1,5 @@
 -- Open "same" terms fall at each split (theorem 4).
-use Prim.Native.Nat.{ℕ, zero, suc, _+_, _≤_, _<_}
+use Prim.Native.Nat.{ℕ, suc, _+_, _≤_, _<_}
 use mathlib.Core.Bool.{Bool, true, false, cond, false≢true}
 use mathlib.Core.List.{List, [], _∷_, _++_}
 use mathlib.Core.Path.{_≡_, refl, sym, ap, _∙_}
@@ -7,11 +7,11 @@ use native.Mathlib.Omega.{arith}
 use borrow.Author.Needs.{zero≤}
 use Rattle.sheet.specs.Conditions.{Term, same, apart}
 use Rattle.sheet.proofs.Ranges.{All}
-use Rattle.equality.specs.Node.{Decisions, isOpen, value, split, node}
+use Rattle.equality.specs.Node.{Decisions}
 use Rattle.equality.specs.Search.{sameTerms, allSameTerms}
 use Rattle.equality.proofs.Small.{Small}
 use Rattle.equality.proofs.Steps.{closed, SmallPair, open-not-closed, same-closed, apart-closed, same-closes, apart-closes}
-use Rattle.equality.proofs.Rule.{SplitAt, split-at}
+use Rattle.equality.proofs.Rule.{SplitAt}
 
 -- ---- how many "same" terms are open
 

@@ -1,22 +1,21 @@
 -- The search is right about every assignment: a met node's classes meet the conditions (theorem 2), and where no node is met nobody's do
 -- (theorem 3).
 use Prim.Native.Nat.{ℕ}
-use mathlib.Core.Bool.{Bool, true, false, _&&_, false≢true}
+use mathlib.Core.Bool.{Bool, true, false, false≢true}
 use mathlib.Core.List.{List, [], _∷_, _++_}
 use mathlib.Core.Logic.{_≢_, _↔_}
-use mathlib.Core.Path.{_≡_, refl, sym, ap, _∙_}
+use mathlib.Core.Path.{_≡_, refl, sym, _∙_}
 use native.Mathlib.Decide.{ℕ-discrete}
-use native.Mathlib.Omega.{arith}
-use Rattle.sheet.specs.Conditions.{Term, same, apart}
+use Rattle.sheet.specs.Conditions.{Term}
 use Rattle.sheet.proofs.Ranges.{All}
-use Rattle.equality.specs.Meaning.{Holds, MeetsCondition, MeetsAll, meetsCondition, meetsAll}
-use Rattle.equality.specs.Node.{Decisions, Respects, smallestLot, Value, isTrue, isFalse, isOpen, value, trueOrOpenApart, passedOver, Node, met, ground, split, node}
-use Rattle.equality.specs.Search.{Tree, metLeaf, groundLeaf, oneBranch, twoBranches, isMet, metDecisions, searchTree}
+use Rattle.equality.specs.Meaning.{Holds, MeetsCondition, MeetsAll, meetsAll}
+use Rattle.equality.specs.Node.{Decisions, Respects, smallestLot, isFalse, value, trueOrOpenApart, passedOver, met, node}
+use Rattle.equality.specs.Search.{Tree, isMet, metDecisions, searchTree}
 use Rattle.equality.proofs.Meaning.{all-decides}
-use Rattle.equality.proofs.Some.{some-none, none-some}
-use Rattle.equality.proofs.Small.{Small, all-map}
+use Rattle.equality.proofs.Some.{none-some}
+use Rattle.equality.proofs.Small.{Small}
 use Rattle.equality.proofs.Classes.{Says, value-says}
-use Rattle.equality.proofs.Node.{passed-by-classes, openSame, taken-values}
+use Rattle.equality.proofs.Node.{passed-by-classes}
 use Rattle.equality.proofs.Rule.{GroundAt, met-passed, ground-at, ground-false, split-at}
 use Rattle.equality.proofs.Opens.{all-at, pair-small}
 use Rattle.equality.proofs.Visits.{Visits, visits-met, visits-ground, visits-one, visits-two, search-visits}

@@ -1,12 +1,12 @@
 -- Terms whose lots are within the classes' entries, as those of every accepted sheet are.
-use Prim.Native.Nat.{ℕ, suc, _+_, _≤_, _<_}
+use Prim.Native.Nat.{ℕ, _≤_}
 use mathlib.Core.List.{List, [], _∷_}
 use native.Mathlib.Omega.{arith}
 use Rattle.sheet.specs.Format.{mostLots, lotCount}
 use Rattle.sheet.specs.Checks.{Accepted}
 use Rattle.sheet.specs.Conditions.{Term, same, apart, conditions}
 use Rattle.sheet.proofs.Ranges.{All}
-use Rattle.sheet.proofs.Accepted.{InLots, sound}
+use Rattle.sheet.proofs.Accepted.{sound}
 use Rattle.sheet.proofs.Conditions.{TermIn, conditions-in}
 
 -- Both lots of a term have an entry.

@@ -1,8 +1,7 @@
 -- What one decision more does to classes, marks and open terms: whatever was closed stays closed, and the pair decided is closed.
 use Prim.Native.Nat.{ℕ, _≤_}
-use mathlib.Core.Bool.{Bool, true, false, cond, not, _&&_, _||_, or-true, false≢true}
+use mathlib.Core.Bool.{Bool, true, false, cond, _&&_, _||_, or-true, false≢true}
 use mathlib.Core.List.{List, [], _∷_}
-use mathlib.Core.Logic.{_≢_}
 use mathlib.Core.Path.{_≡_, refl, sym, ap, _∙_}
 use borrow.Author.Tests.{eqb-true, eq-eqb}
 use lib.Dec.{eqb}
@@ -10,7 +9,7 @@ use lib.ListN.{getD}
 use Rattle.sheet.specs.Format.{mostLots}
 use Rattle.sheet.specs.Conditions.{Term, same, apart}
 use Rattle.sheet.proofs.Ranges.{All}
-use Rattle.equality.specs.Node.{Decisions, classes, smallestLot, share, between, marked, markedApart, Value, isTrue, isFalse, isOpen, value}
+use Rattle.equality.specs.Node.{Decisions, classes, smallestLot, share, between, marked, markedApart, isTrue, isFalse, isOpen, value}
 use Rattle.equality.proofs.Tests.{or-cases, and-true-both}
 use Rattle.equality.proofs.Small.{Small}
 use Rattle.equality.proofs.Classes.{joinedTo, same-class}

@@ -1,15 +1,15 @@
 -- A term that is true stays true when an open pair is decided, either way.
-use Prim.Native.Nat.{ℕ, _≤_, min}
+use Prim.Native.Nat.{ℕ, min}
 use mathlib.Core.Bool.{Bool, true, false, cond, _&&_, _||_, or-comm, or-true, false≢true}
 use mathlib.Core.List.{List, [], _∷_}
 use mathlib.Core.Logic.{_⊎_, inl, inr, ⊎-elim}
-use mathlib.Core.Path.{_≡_, refl, sym, ap, ap₂, _∙_}
+use mathlib.Core.Path.{_≡_, refl, sym, ap₂, _∙_}
 use borrow.Author.Tests.{eqb-true, eqb-false, eq-eqb}
 use lib.Dec.{eqb}
 use lib.ListN.{getD}
 use Rattle.sheet.specs.Conditions.{Term, same, apart}
 use Rattle.sheet.proofs.Ranges.{All}
-use Rattle.equality.specs.Node.{Decisions, classes, smallestLot, share, between, marked, markedApart, isTrue, isFalse, isOpen, value}
+use Rattle.equality.specs.Node.{Decisions, classes, smallestLot, share, marked, markedApart, isTrue, isFalse, isOpen, value}
 use Rattle.equality.proofs.Tests.{or-cases}
 use Rattle.equality.proofs.Small.{Small}
 use Rattle.equality.proofs.Classes.{joinedTo, same-class, min-either}

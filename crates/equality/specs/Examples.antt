@@ -1,12 +1,11 @@
 -- Document 01's sheets A, C and D as lists of conditions, and the trees that the search visits, by computation; and a pair that stands in the
 -- other order.
-use Prim.Native.Nat.{ℕ}
 use mathlib.Core.List.{List, [], _∷_, map}
 use mathlib.Core.Path.{_≡_, refl}
 use Rattle.sheet.specs.Conditions.{Term, same, apart, countUp}
 use Rattle.equality.specs.Meaning.{anyTerm, someTerm}
 use Rattle.equality.specs.Node.{merged, classes, marked, value, taken, groundOrSplit, node}
-use Rattle.equality.specs.Search.{Tree, metLeaf, groundLeaf, oneBranch, twoBranches, isMet, afterSame, visitNode, visit, sameTerms, allSameTerms, searchTree, metDecisions, groupingBytes}
+use Rattle.equality.specs.Search.{metLeaf, groundLeaf, oneBranch, twoBranches, isMet, afterSame, visitNode, visit, sameTerms, allSameTerms, searchTree, metDecisions, groupingBytes}
 
 -- A: same 1 2; same 2 3; apart 1 3.
 abbrev pub conditionsA : List (List Term)

@@ -1,1 +1,3 @@
 mod Passing
+mod Scanning
+mod Entry

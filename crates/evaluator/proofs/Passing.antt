@@ -1,16 +1,16 @@
 -- The loop over a condition's terms: every term that it has passed is false.
-use Prim.Native.Nat.{ℕ, _+_, _≤_}
-use mathlib.Core.Bool.{Bool, true, false}
+use Prim.Native.Nat.{ℕ, _≤_}
+use mathlib.Core.Bool.{true, false}
 use mathlib.Core.List.{List, [], _∷_, _++_, append-nil, append-assoc}
 use mathlib.Core.Path.{_≡_, refl, sym, ap, _∙_}
 use native.Mathlib.Omega.{arith}
 use lib.ListN.{length}
-use Rattle.sheet.specs.Format.{recordCount, lotCount, nextAt, firstLotAt, secondLotAt}
+use Rattle.sheet.specs.Format.{recordCount, nextAt, firstLotAt, secondLotAt}
 use Rattle.sheet.specs.Conditions.{Term, termAt, termsFrom}
 use Rattle.sheet.proofs.Ranges.{All}
 use Rattle.sheet.proofs.Accepted.{sound}
 use Rattle.sheet.proofs.ChainEnds.{terms-end, terms-step}
-use Rattle.equality.specs.Meaning.{holds, meetsCondition, someTerm, anyTerm}
+use Rattle.equality.specs.Meaning.{holds, meetsCondition}
 use Rattle.equality.specs.Evaluator.{numberIn}
 use Rattle.equality.proofs.Some.{some-here, some-false}
 use Rattle.evaluator.specs.Answers.{Evaluable}

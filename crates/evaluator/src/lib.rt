@@ -1,13 +1,13 @@
 // The evaluator: whether the numbers that a grouping gives the lots meet a sheet.
 ghost use mathlib.Core.Path.{_≡_};
-ghost use mathlib.Core.Logic.{_↔_};
+
 ghost use Prim.Native.Nat.{ℕ, _≤_};
 ghost use lib.ListN.{length};
 ghost use Rattle.sheet.specs.Format.{recordCount};
 ghost use Rattle.sheet.specs.Conditions.{termOf, termsFrom, conditions};
 ghost use Rattle.equality.specs.Meaning.{holds, meetsCondition};
 ghost use Rattle.equality.specs.Evaluator.{numberIn, lowestUnmet, evaluateAnswer};
-ghost use Rattle.evaluator.specs.Answers.{evaluationAnswer, Evaluable};
+ghost use Rattle.evaluator.specs.Answers.{evaluationAnswer, unmetOr, Evaluated, Evaluable};
 use sheet::Condition;
 use sheet::Lot;
 use sheet::Reading;
@@ -53,4 +53,44 @@ fn is_met(sheet: &[u8], m: u16, grouping: &[u8], head: Record) -> bool
         at = t.next;
     }
     false
+}
+
+// The lowest condition that is not met.
+fn first_unmet(sheet: &[u8], m: u16, grouping: &[u8]) -> Evaluation
+    requires { ⌜ Evaluable (now sheet) (now grouping) m ⌝ }
+    ensures { λ r. ⌜ r ≡ unmetOr (lowestUnmet (numberIn (now (grouping .entry))) 1 (conditions (now (sheet .entry)))) ⌝ }
+{
+    let mut c: u16 = 1;
+    while c <= m {
+        let head = sheet::format::head_at(sheet, Condition(c));
+        if !is_met(sheet, m, grouping, head) {
+            return Evaluation::Unmet(Condition(c));
+        }
+        c += 1;
+    }
+    Evaluation::AllMet
+}
+
+// The evaluator, for any bytes at all: the first check that fails, or whether all conditions are met, or the lowest that isn't.
+pub fn evaluate(sheet: &[u8], grouping: &[u8]) -> Evaluation
+    ensures answer { λ r. ⌜ evaluationAnswer r ≡ evaluateAnswer (now (sheet .entry)) (now (grouping .entry)) ⌝ }
+    ensures meaning { λ r. ⌜ Evaluated r (now (sheet .entry)) (now (grouping .entry)) ⌝ }
+{
+    let reading = sheet::read(sheet);
+    match reading {
+        Reading::Refused { check, place } => Evaluation::Refused { check, place },
+        Reading::Accepted {
+            lots,
+            conditions,
+            terms: _,
+        } => {
+            if grouping.len() < (lots as usize) {
+                return Evaluation::Refused {
+                    check: 8,
+                    place: lots as u32,
+                };
+            }
+            first_unmet(sheet, conditions, grouping)
+        }
+    }
 }

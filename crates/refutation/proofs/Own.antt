@@ -1,16 +1,15 @@
 -- The search's own grounds pass (theorem 7): the records of a search without a met node are a refutation.
 use Prim.Native.Nat.{ℕ, suc, _+_, _-_, _/_, _%_, _≤_}
-use mathlib.Core.Bool.{Bool, true, false, not, _&&_, false≢true}
+use mathlib.Core.Bool.{true, false, not, _&&_, false≢true}
 use mathlib.Core.List.{List, [], _∷_, _++_, append-nil, append-assoc}
 use mathlib.Core.Path.{_≡_, refl, sym, ap, _∙_}
 use native.Mathlib.Numerals.{add-one}
 use native.Mathlib.Omega.{arith}
 use borrow.Author.Tests.{le-leb, lt-leb, le-ltb, eq-eqb, ne-eqb}
-use lib.Dec.{leb, eqb}
-use lib.ListN.{length, getD, length-append}
+use lib.Dec.{eqb}
+use lib.ListN.{length, length-append}
 use lib.Seq.{getD-append-seam}
-use Rattle.sheet.specs.declared.Verdict.{Verdict}
-use Rattle.sheet.specs.declared.Verdict.the-variants.{Passes, Refuses}
+use Rattle.sheet.specs.declared.Verdict.the-variants.{Passes}
 use Rattle.sheet.specs.Format.{mostConditions, lotCount, conditionCount}
 use Rattle.sheet.specs.Checks.{Accepted, orElse, refusesIf, firstRefusal, lotInRange}
 use Rattle.sheet.proofs.Verdicts.{passes-firstRefusal}
@@ -19,7 +18,7 @@ use Rattle.sheet.specs.Conditions.{Term, same, apart, conditions}
 use Rattle.sheet.proofs.Ranges.{All}
 use Rattle.sheet.proofs.Accepted.{InLots, sound}
 use Rattle.sheet.proofs.Conditions.{TermIn, conditions-length, conditions-in, terms-length}
-use Rattle.equality.specs.Node.{Decisions, isFalse, value, trueOrOpenApart, node, split, ground}
+use Rattle.equality.specs.Node.{Decisions, value, trueOrOpenApart}
 use Rattle.equality.specs.Search.{Tree, metLeaf, groundLeaf, oneBranch, twoBranches, isMet, nodeCount, depth, searchTree}
 use Rattle.equality.proofs.Some.{none-too}
 use Rattle.equality.proofs.Small.{Small, all-map, conditions-small}
@@ -27,7 +26,7 @@ use Rattle.equality.proofs.Rule.{TakenAt, GroundAt, SplitAt, ground-at, ground-
 use Rattle.equality.proofs.Opens.{all-at, pair-small}
 use Rattle.equality.proofs.Visits.{Visits, visits-met, visits-ground, visits-one, visits-two, search-visits}
 use Rattle.equality.proofs.Bounds.{search-depth, all-same-terms}
-use Rattle.store.specs.Records.{NodeRecord, splitRecord, groundRecord, records, encodeAll, recordLength, mostNodes}
+use Rattle.store.specs.Records.{NodeRecord, records, encodeAll, recordLength, mostNodes}
 use Rattle.store.proofs.Codec.{Fits, bytes-count, records-of}
 use Rattle.refutation.specs.Refutation.{mostSplits, Split, decisionsOf, notFalse, groundFails, nearest, turned, afterGround, named, conditionInRange, walkFrom, check10, walkVerdict, listVerdict, Refutes}
 

@@ -1,17 +1,16 @@
 -- What passes is a refutation (theorem 6): whatever the list, and from whichever hand, no assignment meets the sheet.
-use Prim.Native.Nat.{ℕ, zero, suc, _-_, _≤_, _<_}
-use mathlib.Core.Bool.{Bool, true, false, not, _&&_, false≢true, and-eq-true-iff}
-use mathlib.Core.List.{List, [], _∷_, _++_}
-use mathlib.Core.Logic.{_≢_}
-use mathlib.Core.Path.{_≡_, refl, sym, ap, _∙_}
+use Prim.Native.Nat.{ℕ, zero, suc, _-_, _<_}
+use mathlib.Core.Bool.{true, false, not, _&&_, false≢true, and-eq-true-iff}
+use mathlib.Core.List.{List, [], _∷_}
+use mathlib.Core.Path.{_≡_, refl, sym}
 use native.Mathlib.Omega.{arith}
 use borrow.Author.Tests.{leb-true, not-false}
 use lib.Dec.{eqb, leb}
 use lib.ListN.{length, getD}
 use Rattle.sheet.specs.declared.Verdict.{Verdict}
 use Rattle.sheet.specs.declared.Verdict.the-variants.{Passes, Refuses}
-use Rattle.sheet.specs.Format.{mostLots, lotCount, conditionCount}
-use Rattle.sheet.specs.Checks.{Accepted, orElse, refusesIf, lotInRange}
+use Rattle.sheet.specs.Format.{lotCount, conditionCount}
+use Rattle.sheet.specs.Checks.{Accepted, refusesIf, lotInRange}
 use Rattle.sheet.specs.Conditions.{Term, same, apart, conditions}
 use Rattle.sheet.proofs.Verdicts.{orElse-passes, refusesIf-passes, firstRefusal-passes}
 use Rattle.sheet.proofs.Further.{further-passes}
@@ -24,7 +23,7 @@ use Rattle.equality.proofs.Some.{some-none, none-some}
 use Rattle.equality.proofs.Small.{Small, conditions-small}
 use Rattle.equality.proofs.Classes.{Says, value-says}
 use Rattle.store.specs.Records.{NodeRecord, splitRecord, groundRecord, metRecord, noRecord, recordsOf}
-use Rattle.refutation.specs.Refutation.{mostSplits, Split, decisionsOf, notFalse, groundFails, Nearest, noSplit, sameSplit, nearestOf, nearest, turned, mustEnd, afterGround, named, conditionInRange, walkRecord, walkFrom, check10, walkVerdict, listVerdict, Refutes}
+use Rattle.refutation.specs.Refutation.{mostSplits, Split, decisionsOf, notFalse, groundFails, nearestOf, nearest, turned, afterGround, named, conditionInRange, walkRecord, walkFrom, check10, walkVerdict, listVerdict, Refutes}
 
 refuses-passes : {check place : ℕ} → Refuses check place ≡ Passes → ⊥
 refuses-passes e = let z : _≡_ {A = ℕ} 0 1 = cc in omega arith

@@ -1,7 +1,7 @@
 -- Node records and their bytes are one codec: what is encoded is decoded again, record by record.
-use Prim.Native.Nat.{ℕ, zero, suc, _+_, _*_, _-_, _/_, _%_, _≤_, _<_}
+use Prim.Native.Nat.{ℕ, zero, suc, _+_, _*_, _-_, _/_, _%_, _<_}
 use mathlib.Core.List.{List, [], _∷_, _++_, map}
-use mathlib.Core.Path.{_≡_, refl, sym, ap, _∙_}
+use mathlib.Core.Path.{_≡_, refl, ap, _∙_}
 use native.Mathlib.Nat.{add-assoc}
 use native.Mathlib.Omega.{arith}
 use lib.ListN.{length, getD, length-append}
@@ -10,7 +10,7 @@ use Rattle.sheet.specs.Bytes.{number, twoBytes}
 use Rattle.sheet.specs.Conditions.{countUp}
 use Rattle.sheet.proofs.Ranges.{All, length-along, getD-along}
 use Rattle.equality.specs.Search.{Tree, metLeaf, groundLeaf, oneBranch, twoBranches, nodeCount}
-use Rattle.store.specs.Records.{NodeRecord, splitRecord, groundRecord, metRecord, noRecord, records, recordLength, fields, encode, ofKind, decode, recordAt, recordsOf, encodeAll}
+use Rattle.store.specs.Records.{NodeRecord, splitRecord, groundRecord, metRecord, noRecord, records, recordLength, encode, ofKind, decode, recordAt, recordsOf, encodeAll}
 
 -- ---- lengths
 

@@ -1,13 +1,13 @@
 -- Where the search is met, the evaluator answers 0 on the grouping as the search leaves it (theorem 2, over bytes).
-use Prim.Native.Nat.{ℕ, suc, _+_, _-_, _≤_, _<_}
+use Prim.Native.Nat.{ℕ, _-_, _≤_}
 use mathlib.Core.Bool.{true}
-use mathlib.Core.List.{List, [], _∷_, _++_}
-use mathlib.Core.Path.{_≡_, refl, sym, ap, _∙_}
+use mathlib.Core.List.{List}
+use mathlib.Core.Path.{_≡_, ap, _∙_}
 use native.Mathlib.Omega.{arith}
-use lib.ListN.{length, getD, take, drop, length-take, length-drop, length-append, List·getD-append}
+use lib.ListN.{length, getD, take, drop, length-take, length-drop, List·getD-append}
 use lib.Seq.{getD-take, getD-drop}
 use Rattle.sheet.specs.Format.{mostLots, lotCount}
-use Rattle.sheet.specs.Conditions.{Term, conditions}
+use Rattle.sheet.specs.Conditions.{conditions}
 use Rattle.sheet.specs.Checks.{Accepted}
 use Rattle.sheet.proofs.Accepted.{InLots, sound}
 use Rattle.sheet.proofs.Conditions.{conditions-in}

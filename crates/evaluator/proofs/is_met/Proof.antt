@@ -1,7 +1,6 @@
 -- `evaluator::is_met`: every term that the loop has passed is false; what is left of the chain falls.
-use borrow.Author.Needs.{needs}
-use mathlib.Core.Path.{_≡_, refl, sym, ap, _∙_}
-use Prim.Native.Nat.{ℕ, _≤_}
+use mathlib.Core.Path.{_≡_, sym, ap, _∙_}
+use Prim.Native.Nat.{_≤_}
 use native.Mathlib.Omega.{arith}
 use lib.ListN.{length}
 use Rattle.sheet.specs.declared.Term.{Term}
@@ -13,10 +12,6 @@ use Rattle.equality.specs.Evaluator.{numberIn}
 use Rattle.evaluator.proofs.Passing.{Passing, passing-start, lots-numbered, found, passing-next, ended}
 use Rattle.evaluator.proofs.is_met.Statement.{statement}
 use Rattle.evaluator.proofs.is_met.Tie as tie
-use Rattle.evaluator.proofs.is_met.Reads as reads
-use Rattle.evaluator.proofs.is_met.Lts as lts
-use Rattle.evaluator.proofs.is_true.Reads as is-true-reads
-use Rattle.sheet.proofs.format.term_at.Reads as term-at-reads
 
 abbrev Inv-loop : tie.InvT-loop
 Inv-loop sheet m grouping at₀ at = Passing sheet grouping (at₀ .0) (at .0)

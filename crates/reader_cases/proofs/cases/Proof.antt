@@ -3,9 +3,6 @@ use Prim.Native.Nat.{_≤_, _-_}
 use lib.ListN.{length}
 use Rattle.reader_cases.proofs.cases.Statement.{statement}
 use Rattle.reader_cases.proofs.cases.Tie as tie
-use Rattle.reader_cases.proofs.cases.Reads as reads
-use Rattle.reader_cases.proofs.cases.Lts as lts
-use Rattle.reader_cases.proofs.case.Reads as case-reads
 
 abbrev Inv-loop : tie.InvT-loop
 Inv-loop text bytes₀ at₀ bytes at = at ≤ length text

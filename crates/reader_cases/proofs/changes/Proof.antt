@@ -2,11 +2,6 @@ use borrow.Author.Needs.{needs}
 use Prim.Native.Nat.{_≤_, _-_}
 use Rattle.reader_cases.proofs.changes.Statement.{statement}
 use Rattle.reader_cases.proofs.changes.Tie as tie
-use Rattle.reader_cases.proofs.changes.Reads as reads
-use Rattle.reader_cases.proofs.changes.Lts as lts
-use Rattle.reader_cases.proofs.line.number_at.Reads as number-at-reads
-use Rattle.reader_cases.proofs.line.skip.Reads as skip-reads
-use Rattle.reader_cases.proofs.plain.change.Reads as change-reads
 
 abbrev Inv-loop : tie.InvT-loop
 Inv-loop text at bytes₀ m len length₀ i₀ bytes length i = i ≤ lib.ListN.length text

@@ -3,8 +3,6 @@ use Prim.Native.Nat.{_≤_, _-_}
 use lib.ListN.{length}
 use Rattle.reader_cases.proofs.line.find.Statement.{statement}
 use Rattle.reader_cases.proofs.line.find.Tie as tie
-use Rattle.reader_cases.proofs.line.find.Reads as reads
-use Rattle.reader_cases.proofs.line.find.Lts as lts
 
 abbrev Inv-loop : tie.InvT-loop
 Inv-loop text at byte i₀ i = (i₀ ≤ i) × (i ≤ length text)

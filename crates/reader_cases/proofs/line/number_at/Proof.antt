@@ -3,9 +3,6 @@ use Prim.Native.Nat.{_≤_, _-_}
 use lib.ListN.{length}
 use Rattle.reader_cases.proofs.line.number_at.Statement.{statement}
 use Rattle.reader_cases.proofs.line.number_at.Tie as tie
-use Rattle.reader_cases.proofs.line.number_at.Reads as reads
-use Rattle.reader_cases.proofs.line.number_at.Lts as lts
-use Rattle.reader_cases.proofs.line.skip.Reads as skip-reads
 
 abbrev Inv-loop : tie.InvT-loop
 Inv-loop text at i₀ value₀ i value = (at ≤ i) × (i ≤ length text) × (value ≤ 65540)

@@ -3,8 +3,6 @@ use Prim.Native.Nat.{_≤_, _-_}
 use lib.ListN.{length}
 use Rattle.reader_cases.proofs.line.skip.Statement.{statement}
 use Rattle.reader_cases.proofs.line.skip.Tie as tie
-use Rattle.reader_cases.proofs.line.skip.Reads as reads
-use Rattle.reader_cases.proofs.line.skip.Lts as lts
 
 abbrev Inv-loop : tie.InvT-loop
 Inv-loop text at i₀ i = (i₀ ≤ i) × (i ≤ length text)

@@ -2,11 +2,6 @@ use borrow.Author.Needs.{needs}
 use Prim.Native.Nat.{_≤_}
 use Rattle.reader_cases.proofs.plain.chain.Statement.{statement}
 use Rattle.reader_cases.proofs.plain.chain.Tie as tie
-use Rattle.reader_cases.proofs.plain.chain.Reads as reads
-use Rattle.reader_cases.proofs.plain.chain.Lts as lts
-use Rattle.reader_cases.proofs.plain.field.Reads as field-reads
-use Rattle.reader_cases.proofs.plain.put.Reads as put-reads
-use Rattle.reader_cases.proofs.plain.put_number.Reads as put-number-reads
 
 abbrev Inv-loop : tie.InvT-loop
 Inv-loop bytes₀ m k r₀ next₀ bytes r next = r ≤ r₀

@@ -2,8 +2,6 @@ use borrow.Author.Needs.{needs}
 use Prim.Native.Nat.{_≤_, _-_}
 use Rattle.reader_cases.proofs.plain.clear.Statement.{statement}
 use Rattle.reader_cases.proofs.plain.clear.Tie as tie
-use Rattle.reader_cases.proofs.plain.clear.Reads as reads
-use Rattle.reader_cases.proofs.plain.clear.Lts as lts
 
 abbrev Inv-loop : tie.InvT-loop
 Inv-loop bytes₀ i₀ bytes i = i ≤ 8711
