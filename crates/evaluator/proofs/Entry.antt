@@ -57,13 +57,14 @@ module _ (s grouping : List ℕ) where
 
       unmet : (c : ℕ) → LowestUnmet (numberIn grouping) 1 (conditions s) c → Evaluated (unmetOr c) s grouping
       unmet zero l = absurd (omega (arith, l .low))
-      unmet (suc c) l =
-          (l .low,
-          omega (arith, l .high, conditions-length s),
-          (λ h. false≢true (sym (l .unmet) ∙ ap (meetsCondition (numberIn grouping)) (at (suc c) (l .low) (l .high)) ∙ condition-decides (numberIn grouping) (conditionAt s (suc c)) .1 h)),
-          (λ d low high.
+      unmet (suc c) l = (
+        l .low,
+        omega (arith, l .high, conditions-length s),
+        (λ h. false≢true (sym (l .unmet) ∙ ap (meetsCondition (numberIn grouping)) (at (suc c) (l .low) (l .high)) ∙ condition-decides (numberIn grouping) (conditionAt s (suc c)) .1 h)),
+        (λ d low high.
             condition-decides (numberIn grouping) (conditionAt s d) .0
-            (sym (ap (meetsCondition (numberIn grouping)) (at d low (omega (arith, l .high)))) ∙ l .earlier d low high)))
+            (sym (ap (meetsCondition (numberIn grouping)) (at d low (omega (arith, l .high)))) ∙ l .earlier d low high)),
+      )
 
       case : (c : ℕ) → lowestUnmet (numberIn grouping) 1 (conditions s) ≡ c → Evaluated (unmetOr c) s grouping
       case zero e = evaluator-zero (numberIn grouping) (conditions s) .0 e

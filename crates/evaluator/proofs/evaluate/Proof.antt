@@ -32,10 +32,11 @@ accepted c = read-accepts _ _ _ _ (ap readingAnswer (sym (c .reading2 .given .1)
 returns : tie.Need-returns
 returns c =
     let a = accepted (c .before .before) in
-    let start = c .before .before .before .before .before .before .before in
-    (ap (refused 8) (a .lots)
-    ∙ grouping-short (start .args .sheet .now) (start .args .grouping .now) (a .accepted) (omega (arith, a .lots, c .if1 .taken)),
-    tt)
+    let start = c .before .before .before .before .before .before .before in (
+      ap (refused 8) (a .lots)
+          ∙ grouping-short (start .args .sheet .now) (start .args .grouping .now) (a .accepted) (omega (arith, a .lots, c .if1 .taken)),
+      tt,
+    )
 
 first-unmet-requires : tie.Need-first-unmet-requires
 first-unmet-requires c κs =
@@ -44,19 +45,21 @@ first-unmet-requires c κs =
 
 returns-2 : tie.Need-returns-2
 returns-2 c =
-    let start = c .before .before .before .before .before .before in
-    (sheet-refused (start .args .sheet .now) (start .args .grouping .now) _ _
-    (read-refuses (start .args .sheet .now) _ _ (ap readingAnswer (sym (c .before .reading .given .1)) ∙ c .before .before .before .read .ensures)),
-    tt)
+    let start = c .before .before .before .before .before .before in (
+      sheet-refused (start .args .sheet .now) (start .args .grouping .now) _ _
+          (read-refuses (start .args .sheet .now) _ _ (ap readingAnswer (sym (c .before .reading .given .1)) ∙ c .before .before .before .read .ensures)),
+      tt,
+    )
 
 returns-3 : tie.Need-returns-3
 returns-3 c =
     let a = accepted (c .before .before .before) in
     let start = c .before .before .before .before .before .before .before .before in
     let s = start .args .sheet .now in
-    let grouping = start .args .grouping .now in
-    (ap evaluationAnswer (c .first-unmet .ensures) ∙ evaluated s grouping (a .accepted) (omega (arith, a .lots, c .before .if1 .left)),
-    rw (c .first-unmet .ensures) (evaluated-means s grouping))
+    let grouping = start .args .grouping .now in (
+      ap evaluationAnswer (c .first-unmet .ensures) ∙ evaluated s grouping (a .accepted) (omega (arith, a .lots, c .before .if1 .left)),
+      rw (c .first-unmet .ensures) (evaluated-means s grouping),
+    )
 
 pub evaluate-spec : {M : Type 1} → statement M
 evaluate-spec =

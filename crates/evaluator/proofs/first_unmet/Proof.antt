@@ -40,9 +40,10 @@ head-at-requires c κs =
 is-met-requires : tie.Need-is-met-requires Inv-loop μ-loop
 is-met-requires c κs =
     let h = c .before .before in
-    let start = h .before .before .before in
-    (start .pre,
-    rw (c .head-at .ensures) (sound (start .args .sheet .now) (start .pre .accepted) .heads (h .loop .c) (h .loop .inv .low) (numbered (c .before))))
+    let start = h .before .before .before in (
+      start .pre,
+      rw (c .head-at .ensures) (sound (start .args .sheet .now) (start .pre .accepted) .heads (h .loop .c) (h .loop .inv .low) (numbered (c .before))),
+    )
 
 -- What `is_met` answers is whether the condition is met.
 answer : (c : tie.After-is-met Inv-loop μ-loop)
@@ -59,7 +60,7 @@ returns c =
     let h = c .before .before .before .before in
     let start = h .before .before .before in
     let lowest = unmet-here (numberIn (start .args .grouping .now)) (start .args .sheet .now) (h .loop .c) (h .loop .inv) (numbered (c .before .before .before))
-        (sym (answer (c .before)) ∙ not-true _ (c .if1 .taken)) in
+    (sym (answer (c .before)) ∙ not-true _ (c .if1 .taken)) in
     rw lowest (unmet-case (h .loop .c) (h .loop .inv .low))
 
 add-c : tie.Need-add-c Inv-loop μ-loop

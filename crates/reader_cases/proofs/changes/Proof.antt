@@ -1,3 +1,4 @@
+-- `reader_cases::changes`: the place in the text stays within it; what is left of the text falls.
 use borrow.Author.Needs.{needs}
 use Prim.Native.Nat.{_≤_, _-_}
 use Rattle.reader_cases.proofs.changes.Statement.{statement}
@@ -9,51 +10,39 @@ Inv-loop text at bytes₀ m len length₀ i₀ bytes length i = i ≤ lib.ListN.
 abbrev μ-loop : tie.MeasureT-loop
 μ-loop text at bytes₀ m len length₀ i₀ bytes length i = lib.ListN.length text - i
 
--- src/main.rt:63:9
 skip-requires : tie.Need-skip-requires Inv-loop μ-loop
 skip-requires c κs = search needs
 
--- src/main.rt:64:5
 loop-holds : tie.Need-loop-holds Inv-loop μ-loop
 loop-holds c = search needs
 
--- src/main.rt:65:22
 shared-slice-read-letter : tie.Need-shared-slice-read-letter Inv-loop μ-loop
 shared-slice-read-letter c = search needs
 
--- src/main.rt:66:43
 add-number-at : tie.Need-add-number-at Inv-loop μ-loop
 add-number-at c = search needs
 
--- src/main.rt:66:13
 number-at-requires : tie.Need-number-at-requires Inv-loop μ-loop
 number-at-requires c κs = search needs
 
--- src/main.rt:67:13
 number-at-requires-2 : tie.Need-number-at-requires-2 Inv-loop μ-loop
 number-at-requires-2 c κs = search needs
 
--- src/main.rt:69:22
 cast-length : tie.Need-cast-length Inv-loop μ-loop
 cast-length c = search needs
 
--- src/main.rt:71:13
 change-requires : tie.Need-change-requires Inv-loop μ-loop
 change-requires c κs = search needs
 
--- src/main.rt:73:9
 skip-requires-2 : tie.Need-skip-requires-2 Inv-loop μ-loop
 skip-requires-2 c κs = search needs
 
--- src/main.rt:64:5
 loop-less : tie.Need-loop-less Inv-loop μ-loop
 loop-less c = search needs
 
--- src/main.rt:64:5
 loop-again : tie.Need-loop-again Inv-loop μ-loop
 loop-again c = search needs
 
--- src/main.rt:59:1
 returns : tie.Need-returns Inv-loop μ-loop
 returns c = search needs
 

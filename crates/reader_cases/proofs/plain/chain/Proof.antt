@@ -1,3 +1,4 @@
+-- `reader_cases::plain::chain`: the records left fall.
 use borrow.Author.Needs.{needs}
 use Prim.Native.Nat.{_≤_}
 use Rattle.reader_cases.proofs.plain.chain.Statement.{statement}
@@ -9,55 +10,42 @@ Inv-loop bytes₀ m k r₀ next₀ bytes r next = r ≤ r₀
 abbrev μ-loop : tie.MeasureT-loop
 μ-loop bytes₀ m k r₀ next₀ bytes r next = r
 
--- src/plain.rt:51:5
 loop-holds : tie.Need-loop-holds Inv-loop μ-loop
 loop-holds c = search needs
 
--- src/plain.rt:52:20
 field-requires : tie.Need-field-requires Inv-loop μ-loop
 field-requires c κs = search needs
 
--- src/plain.rt:52:9
 put-requires : tie.Need-put-requires Inv-loop μ-loop
 put-requires c κs = search needs
 
--- src/plain.rt:53:27
 field-requires-2 : tie.Need-field-requires-2 Inv-loop μ-loop
 field-requires-2 c κs = search needs
 
--- src/plain.rt:53:9
 put-number-requires : tie.Need-put-number-requires Inv-loop μ-loop
 put-number-requires c κs = search needs
 
--- src/plain.rt:54:27
 field-requires-3 : tie.Need-field-requires-3 Inv-loop μ-loop
 field-requires-3 c κs = search needs
 
--- src/plain.rt:54:9
 put-number-requires-2 : tie.Need-put-number-requires-2 Inv-loop μ-loop
 put-number-requires-2 c κs = search needs
 
--- src/plain.rt:55:27
 field-requires-4 : tie.Need-field-requires-4 Inv-loop μ-loop
 field-requires-4 c κs = search needs
 
--- src/plain.rt:55:9
 put-number-requires-3 : tie.Need-put-number-requires-3 Inv-loop μ-loop
 put-number-requires-3 c κs = search needs
 
--- src/plain.rt:57:9
 sub-r : tie.Need-sub-r Inv-loop μ-loop
 sub-r c = search needs
 
--- src/plain.rt:51:5
 loop-less : tie.Need-loop-less Inv-loop μ-loop
 loop-less c = search needs
 
--- src/plain.rt:51:5
 loop-again : tie.Need-loop-again Inv-loop μ-loop
 loop-again c = search needs
 
--- src/plain.rt:48:1
 returns : tie.Need-returns Inv-loop μ-loop
 returns c = search needs
 

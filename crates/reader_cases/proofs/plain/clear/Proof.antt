@@ -1,3 +1,4 @@
+-- `reader_cases::plain::clear`: the place stays within the room.
 use borrow.Author.Needs.{needs}
 use Prim.Native.Nat.{_≤_, _-_}
 use Rattle.reader_cases.proofs.plain.clear.Statement.{statement}
@@ -9,27 +10,21 @@ Inv-loop bytes₀ i₀ bytes i = i ≤ 8711
 abbrev μ-loop : tie.MeasureT-loop
 μ-loop bytes₀ i₀ bytes i = 8711 - i
 
--- src/plain.rt:41:5
 loop-holds : tie.Need-loop-holds Inv-loop μ-loop
 loop-holds c = search needs
 
--- src/plain.rt:42:9
 element-write-bytes : tie.Need-element-write-bytes Inv-loop μ-loop
 element-write-bytes c = search needs
 
--- src/plain.rt:43:9
 add-i : tie.Need-add-i Inv-loop μ-loop
 add-i c = search needs
 
--- src/plain.rt:41:5
 loop-less : tie.Need-loop-less Inv-loop μ-loop
 loop-less c = search needs
 
--- src/plain.rt:41:5
 loop-again : tie.Need-loop-again Inv-loop μ-loop
 loop-again c = search needs
 
--- src/plain.rt:39:1
 returns : tie.Need-returns Inv-loop μ-loop
 returns c = search needs
 

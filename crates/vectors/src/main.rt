@@ -1,0 +1,140 @@
+// The outside vectors, run through the services: data/cases.bin has cases that an implementation of document 01 made which shares nothing with this
+// one, and the file stdout what it answered. A case is the service in one byte (0 read, 1 search, 2 check, 3 evaluate), then three buffers, each its
+// length in four bytes, low byte first, and its bytes: the sheet; the grouping or the list; the store. A line of output is the service, the answer as
+// four numbers, and a checksum of the second and of the third buffer after the call. The program compares nothing itself.
+mod answers; // answers.rt: an answer as four numbers
+
+ghost use Prim.Native.Nat.{_+_, _≤_};
+ghost use lib.ListN.{length};
+use answers::Numbers;
+use libc::STDOUT_FILENO;
+
+// The services that are there: no search and no checker yet.
+fn is_there(service: u8) -> bool {
+    service == 0 || service == 3
+}
+
+fn main() {
+    let path = b"cases.bin";
+    let fd = os::open_read(path);
+    if fd < 0 {
+        os::fail(path);
+        return;
+    }
+    let skipped = cases(fd);
+    io::write_all(STDOUT_FILENO, b"skipped");
+    field(skipped);
+    io::write_all(STDOUT_FILENO, b"\n");
+}
+
+// All cases; how many were skipped. There is a bound on them, so that the loop ends whatever the file has.
+fn cases(fd: i32) -> u64 {
+    let mut left: u64 = 100000;
+    let mut skipped: u64 = 0;
+    while 0 < left {
+        let service = byte(fd);
+        if 3 < service {
+            return skipped;
+        }
+        if !case(fd, service) {
+            skipped += 1;
+        }
+        left -= 1;
+    }
+    skipped
+}
+
+// One case, where its service is there; whether it is.
+fn case(fd: i32, service: u8) -> bool {
+    let mut sheet = [0u8; 4096];
+    let mut second = [0u8; 8192];
+    let mut third = [0u8; 8192];
+    let a = buffer(fd, &mut sheet);
+    let b = buffer(fd, &mut second);
+    let c = buffer(fd, &mut third);
+    if is_there(service) {
+        run(service, &sheet[..a], &second[..b], &third[..c]);
+        true
+    } else {
+        false
+    }
+}
+
+// The next byte; 255 at the end of the file.
+fn byte(fd: i32) -> u8 {
+    let mut one = [0u8; 1];
+    let got = io::read_full(fd, &mut one);
+    if got == 1 { one[0] } else { 255 }
+}
+
+// A buffer's length and its bytes, put at the start of a place for them; how many there are.
+fn buffer(fd: i32, bytes: &mut [u8]) -> usize
+    ensures { λ r. ⌜ r ≤ length (now (bytes .exit)) ⌝ }
+{
+    let n = two_bytes(fd);
+    two_bytes(fd);
+    if bytes.len() < n {
+        return 0;
+    }
+    let mut i: usize = 0;
+    while i < n {
+        bytes[i] = byte(fd);
+        i += 1;
+    }
+    n
+}
+
+fn two_bytes(fd: i32) -> usize {
+    let low = byte(fd) as usize;
+    let high = byte(fd) as usize;
+    low + 256 * high
+}
+
+// One case: the call, and its line.
+fn run(service: u8, sheet: &[u8], second: &[u8], third: &[u8]) {
+    if service == 0 {
+        say(
+            service,
+            answers::of_reading(sheet::read(sheet)),
+            second,
+            third,
+        );
+    } else {
+        say(
+            service,
+            answers::of_evaluation(evaluator::evaluate(sheet, second)),
+            second,
+            third,
+        );
+    }
+}
+
+fn say(service: u8, answer: Numbers, second: &[u8], third: &[u8]) {
+    io::print_decimal(STDOUT_FILENO, service as u64);
+    field(answer.check as u64);
+    field(answer.first as u64);
+    field(answer.second as u64);
+    field(answer.third as u64);
+    field(checksum(second));
+    field(checksum(third));
+    io::write_all(STDOUT_FILENO, b"\n");
+}
+
+fn field(x: u64) {
+    io::write_all(STDOUT_FILENO, b" ");
+    io::print_decimal(STDOUT_FILENO, x);
+}
+
+// The sum of (position from 1) × byte, modulo 65,521: a byte is counted once for each position up to its own, so from the last byte down the sums of what
+// was passed are summed.
+fn checksum(bytes: &[u8]) -> u64 {
+    let mut sum: u64 = 0;
+    let mut passed: u64 = 0;
+    let mut i = bytes.len();
+    while 0 < i {
+        i -= 1;
+        passed = (passed + (bytes[i] as u64)) % 65521;
+        sum = (sum + passed) % 65521;
+    }
+    sum
+}
