@@ -1,0 +1,1 @@
+-- The map and the pairs compute the classes and marks of a path.
