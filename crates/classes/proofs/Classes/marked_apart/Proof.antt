@@ -1,5 +1,5 @@
 use Prim.Native.Nat.{_≤_, _-_, _+_, _*_}
-use mathlib.Core.Path.{_≡_, sym, ap, _∙_}
+use mathlib.Core.Path.{_≡_, refl, sym, _∙_}
 use native.Mathlib.Omega.{arith}
 use Rattle.classes.proofs.Marks.{betweenPair, markedBy, found, passed, none-left}
 use borrow.Author.Needs.{needs}
@@ -71,16 +71,27 @@ between-requires : tie.Need-between-requires Inv-loop μ-loop
 between-requires c κs = search needs
 
 returns : tie.Need-returns Inv-loop μ-loop
-returns c = ?
+returns c =
+    let h = c .before .before .before .before .before .before .before in
+    let a = h .before .before .before .before .before .before .args in
+    let l = a .t1 .lots in
+    (refl, sym (h .loop .inv .1 ∙ found l (a .pairs .now) _ _ (h .loop .left) (omega arith) (sym (c .before .between .ensures) ∙ c .if1 .taken)))
 
 loop-less : tie.Need-loop-less Inv-loop μ-loop
 loop-less c = search needs
 
 loop-again : tie.Need-loop-again Inv-loop μ-loop
-loop-again c = ?
+loop-again c =
+    let h = c .before .before .before .before .before .before .before in
+    let a = h .before .before .before .before .before .before .args in
+    let l = a .t1 .lots in
+    (search needs, h .loop .inv .1 ∙ passed l (a .pairs .now) _ _ (h .loop .left) (omega arith) (sym (c .before .between .ensures) ∙ c .if1 .left))
 
 returns-2 : tie.Need-returns-2 Inv-loop μ-loop
-returns-2 c = ?
+returns-2 c =
+    let h = c .before in
+    let a = h .before .before .before .before .before .before .args in
+    (refl, sym (h .loop .inv .1 ∙ none-left (a .t1 .lots) (a .pairs .now) _ _ (h .loop .left) (omega arith)))
 
 pub marked-apart-spec : {M : Type 1} → statement M
 marked-apart-spec =
