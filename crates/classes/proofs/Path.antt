@@ -3,9 +3,10 @@
 use Prim.Native.Nat.{ℕ, zero, suc, _+_, _*_, _≤_, _<_}
 use mathlib.Core.Bool.{_||_}
 use mathlib.Core.List.{List, [], _∷_}
-use mathlib.Core.Path.{_≡_, refl, sym, ap, ap₂, _∙_}
+use mathlib.Core.Path.{_≡_, refl, sym, ap, ap₂, subst, _∙_}
 use native.Mathlib.Omega.{arith}
 use native.Mathlib.Numerals.{add-one}
+use borrow.Author.Count.{below-more}
 use lib.ListN.{length, getD, set, length-set}
 use lib.Seq.{getD-set-same, getD-set-other}
 use Rattle.sheet.specs.Format.{mostLots}
@@ -56,3 +57,90 @@ module _ (bytes : List ℕ) (count a b : ℕ) where
   unfolding setApart
   setApart-pair h =
       ap₂ _∷_ (ap₂ apart (pair-first h) (pair-second h)) (setApart-below bytes (withPair bytes count a b) count pair-leaves)
+
+-- ---- the pairs are within the bytes, and their lots within the map's entries
+
+pub within-none : (bytes : List ℕ) → PairsWithin bytes 0
+within-none bytes = record { within = omega arith; lots = λ i h. absurd (omega arith) }
+
+pub within-below : {bytes : List ℕ} {count : ℕ} → PairsWithin bytes count
+    → (bytes′ : List ℕ) → length bytes′ ≡ length bytes → ((i : ℕ) → i < 2 * count → getD bytes′ i 0 ≡ getD bytes i 0) → PairsWithin bytes′ count
+within-below {bytes} {count} h bytes′ len below =
+    record { within = omega (arith, h .within); lots = λ i lt. omega (arith, below i lt, h .lots i lt) }
+
+-- A test of every place below the next pair's end, from those below the pair and its two places.
+pair-more : (P : ℕ → Type 0) (n : ℕ) → ((i : ℕ) → i < 2 * n → P i) → P (2 * n) → P (2 * n + 1) → (i : ℕ) → i < 2 * suc n → P i
+pair-more P n below p q i h = below-more P (2 * n + 1) (below-more P (2 * n) below p) q i (omega arith)
+
+pub within-pair : {bytes : List ℕ} {count : ℕ} → PairsWithin bytes count → (a b : ℕ) → a ≤ mostLots → b ≤ mostLots
+    → 2 * count + 2 ≤ length bytes → PairsWithin (withPair bytes count a b) (count + 1)
+within-pair {bytes} {count} h a b ha hb room =
+    record {
+      within = simp length-set (omega arith);
+      lots = λ i lt.
+        pair-more (λ j. getD (withPair bytes count a b) j 0 ≤ mostLots) count
+        (λ j below. omega (arith, pair-leaves bytes count a b j below, h .lots j below))
+        (omega (arith, pair-first bytes count a b room))
+        (omega (arith, pair-second bytes count a b room))
+        i (omega arith)
+    }
+
+-- Pairs of a path whose lots have entries are such.
+small-only : (ds : Decisions) → All Small ds → All Small (onlyApart ds)
+unfolding onlyApart
+small-only [] h = tt
+small-only (same a b ∷ ds) h = small-only ds (h .1)
+small-only (apart a b ∷ ds) h = (h .0, small-only ds (h .1))
+
+small-bytes : (bytes : List ℕ) (count : ℕ) → All Small (setApart bytes count) → (i : ℕ) → i < 2 * count → getD bytes i 0 ≤ mostLots
+unfolding setApart
+small-bytes bytes zero h i lt = absurd (omega arith)
+small-bytes bytes (suc n) h i lt =
+    pair-more (λ j. getD bytes j 0 ≤ mostLots) n (small-bytes bytes n (h .1)) (h .0 .0) (h .0 .1) i lt
+
+-- ---- what the methods do to the path that is represented
+
+pub new-represents : (c : Classes) (bytes : List ℕ) → c .lots ≡ classes [] → Represents c bytes 0 []
+unfolding setApart onlyApart
+new-represents c bytes e = record { lots = e; pairs = refl }
+
+module _ {c : Classes} {bytes : List ℕ} {count : ℕ} {ds : Decisions} (r : Represents c bytes count ds) where
+  -- What `join` ensures,
+  pub join-represents : (c′ : Classes) (a b : ℕ) → c′ .lots ≡ merged (classOf (c .lots) a) (classOf (c .lots) b) (c .lots)
+      → Represents c′ bytes count (same a b ∷ ds)
+  unfolding classes onlyApart
+  join-represents c′ a b e =
+      record { lots = e ∙ ap (λ (l : List ℕ). merged (classOf l a) (classOf l b) l) (r .lots); pairs = r .pairs }
+
+  -- what `set_apart` ensures,
+  pub apart-represents : (a b : ℕ) → 2 * count + 2 ≤ length bytes → Represents c (withPair bytes count a b) (count + 1) (apart a b ∷ ds)
+  unfolding classes onlyApart
+  apart-represents a b h =
+      record { lots = r .lots; pairs = rw (add-one count) (ap (λ (earlier : Decisions). apart a b ∷ earlier) (r .pairs) ∙ sym (setApart-pair bytes count a b h)) }
+
+  -- and whatever is written after the pairs.
+  pub below-represents : (bytes′ : List ℕ) → ((i : ℕ) → i < 2 * count → getD bytes′ i 0 ≡ getD bytes i 0) → Represents c bytes′ count ds
+  below-represents bytes′ below = record { lots = r .lots; pairs = r .pairs ∙ sym (setApart-below bytes bytes′ count below) }
+
+  -- The pairs are within the bytes and the entries, as `marked_apart` asks, where the bytes are long enough and the path's lots have entries.
+  pub represented-within : All Small ds → 2 * count ≤ length bytes → PairsWithin bytes count
+  represented-within small h =
+      record { within = h; lots = small-bytes bytes count (subst (All Small) (r .pairs) (small-only ds small)) }
+
+  -- ---- what the answers say of it
+
+  -- `smallest_lot` answers the smallest lot,
+  pub smallest-says : (lot : ℕ) → classOf (c .lots) lot ≡ smallestLot ds lot
+  smallest-says lot = ap (λ (l : List ℕ). classOf l lot) (r .lots)
+
+  -- and `marked_apart` whether the classes are marked apart.
+  pub marked-says : (a b : ℕ) → marked (c .lots) (setApart bytes count) (classOf (c .lots) a) (classOf (c .lots) b) ≡ markedApart ds a b
+  marked-says a b =
+      rw (r .lots, ← r .pairs) (sym (marked-only (classes ds) ds (smallestLot ds a) (smallestLot ds b)))
+
+  -- A lot's entry is the least lot of its class: it is in the class, and at most any lot of it.
+  pub entry-in-class : All Small ds → (lot : ℕ) → lot ≤ mostLots → classOf (c .lots) (classOf (c .lots) lot) ≡ classOf (c .lots) lot
+  entry-in-class small lot h = rw (r .lots) (least-again ds small lot h)
+
+  pub entry-least : (lot other : ℕ) → other ≤ mostLots → classOf (c .lots) other ≡ classOf (c .lots) lot → classOf (c .lots) lot ≤ other
+  entry-least lot other h e = omega (arith, smallest-says other, least ds other h)
