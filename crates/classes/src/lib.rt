@@ -109,9 +109,11 @@ impl Classes {
         let mut left = count;
         while 0 < left {
             left -= 1;
-            let p = pairs[2 * left] as usize;
-            let q = pairs[2 * left + 1] as usize;
-            if between(x, y, self.lots[p], self.lots[q]) {
+            let p = pairs[2 * left];
+            let q = pairs[2 * left + 1];
+            let u = self.lots[p as usize];
+            let v = self.lots[q as usize];
+            if between(x, y, u, v) {
                 return Marked {
                     classes: self,
                     marked: true,

@@ -1,13 +1,13 @@
-use Prim.Native.Nat.{_≤_, _-_, _+_, _*_}
+-- `classes::Classes::marked_apart`: no pair from `left` on marks, so the first `count` pairs mark exactly where the first `left` do; `left` falls.
+use borrow.Author.Needs.{needs}
+use Prim.Native.Nat.{_+_, _*_, _-_, _≤_}
 use mathlib.Core.Path.{_≡_, refl, sym, _∙_}
 use native.Mathlib.Omega.{arith}
-use Rattle.classes.proofs.Marks.{betweenPair, markedBy, found, passed, none-left}
-use borrow.Author.Needs.{needs}
+use lib.ListN.{getD}
+use Rattle.sheet.specs.Format.{mostLots}
+use Rattle.classes.proofs.Marks.{markedBy, found, passed, none-left}
 use Rattle.classes.proofs.Classes.marked_apart.Statement.{statement}
 use Rattle.classes.proofs.Classes.marked_apart.Tie as tie
-use Rattle.classes.proofs.Classes.marked_apart.Reads as reads
-use Rattle.classes.proofs.Classes.marked_apart.Lts as lts
-use Rattle.classes.proofs.between.Reads as between-reads
 
 abbrev Inv-loop : tie.InvT-loop
 Inv-loop pairs count self first second x y left₀ left =
@@ -40,9 +40,6 @@ mul-p c = search needs
 shared-slice-read-p : tie.Need-shared-slice-read-p Inv-loop μ-loop
 shared-slice-read-p c = search needs
 
-cast-p : tie.Need-cast-p Inv-loop μ-loop
-cast-p c = omega (arith, c .shared-slice-known2 .given (2 * (c .before .before .loop .left - 1)))
-
 mul-q : tie.Need-mul-q Inv-loop μ-loop
 mul-q c = search needs
 
@@ -52,20 +49,25 @@ add-q c = search needs
 shared-slice-read-q : tie.Need-shared-slice-read-q Inv-loop μ-loop
 shared-slice-read-q c = search needs
 
-cast-q : tie.Need-cast-q Inv-loop μ-loop
-cast-q c = omega (arith, c .shared-slice-known3 .given (2 * (c .before .before .before .loop .left - 1) + 1))
+-- The lots of the pair that a turn looks at have entries.
+pair-lots : (c : tie.In-loop Inv-loop μ-loop)
+    → (getD (c .before .before .before .before .before .before .before .args .pairs .now) (2 * (c .before .loop .left - 1)) 0 ≤ mostLots)
+    × (getD (c .before .before .before .before .before .before .before .args .pairs .now) (2 * (c .before .loop .left - 1) + 1) 0 ≤ mostLots)
+pair-lots c =
+    let lots = c .before .before .before .before .before .before .before .pre .0 .lots in
+    (lots (2 * (c .before .loop .left - 1)) (omega arith), lots (2 * (c .before .loop .left - 1) + 1) (omega arith))
 
-element-copy-out-between : tie.Need-element-copy-out-between Inv-loop μ-loop
-element-copy-out-between c =
-    let h = c .before .before .before in
-    let start = h .before .before .before .before .before .before in
-    omega (arith, start .pre .0 .lots (2 * (h .loop .left - 1)) (omega arith))
+cast-u : tie.Need-cast-u Inv-loop μ-loop
+cast-u c = omega (arith, pair-lots (c .before .before))
 
-element-copy-out-between-2 : tie.Need-element-copy-out-between-2 Inv-loop μ-loop
-element-copy-out-between-2 c =
-    let h = c .before .before .before .before in
-    let start = h .before .before .before .before .before .before in
-    omega (arith, start .pre .0 .lots (2 * (h .loop .left - 1) + 1) (omega arith))
+element-copy-out-u : tie.Need-element-copy-out-u Inv-loop μ-loop
+element-copy-out-u c = omega (arith, pair-lots (c .before .before))
+
+cast-v : tie.Need-cast-v Inv-loop μ-loop
+cast-v c = omega (arith, pair-lots (c .before .before .before))
+
+element-copy-out-v : tie.Need-element-copy-out-v Inv-loop μ-loop
+element-copy-out-v c = omega (arith, pair-lots (c .before .before .before))
 
 between-requires : tie.Need-between-requires Inv-loop μ-loop
 between-requires c κs = search needs
@@ -74,8 +76,10 @@ returns : tie.Need-returns Inv-loop μ-loop
 returns c =
     let h = c .before .before .before .before .before .before .before in
     let a = h .before .before .before .before .before .before .args in
-    let l = a .t1 .lots in
-    (refl, sym (h .loop .inv .1 ∙ found l (a .pairs .now) _ _ (h .loop .left) (omega arith) (sym (c .before .between .ensures) ∙ c .if1 .taken)))
+    (refl,
+    sym
+    (h .loop .inv .1
+    ∙ found (a .t1 .lots) (a .pairs .now) _ _ (h .loop .left) (omega arith) (sym (c .before .between .ensures) ∙ c .if1 .taken)))
 
 loop-less : tie.Need-loop-less Inv-loop μ-loop
 loop-less c = search needs
@@ -84,8 +88,9 @@ loop-again : tie.Need-loop-again Inv-loop μ-loop
 loop-again c =
     let h = c .before .before .before .before .before .before .before in
     let a = h .before .before .before .before .before .before .args in
-    let l = a .t1 .lots in
-    (search needs, h .loop .inv .1 ∙ passed l (a .pairs .now) _ _ (h .loop .left) (omega arith) (sym (c .before .between .ensures) ∙ c .if1 .left))
+    (search needs,
+    h .loop .inv .1
+    ∙ passed (a .t1 .lots) (a .pairs .now) _ _ (h .loop .left) (omega arith) (sym (c .before .between .ensures) ∙ c .if1 .left))
 
 returns-2 : tie.Need-returns-2 Inv-loop μ-loop
 returns-2 c =
@@ -107,13 +112,13 @@ marked-apart-spec =
     sub-left
     mul-p
     shared-slice-read-p
-    cast-p
     mul-q
     add-q
     shared-slice-read-q
-    cast-q
-    element-copy-out-between
-    element-copy-out-between-2
+    cast-u
+    element-copy-out-u
+    cast-v
+    element-copy-out-v
     between-requires
     returns
     loop-less
