@@ -68,7 +68,7 @@ pub within-below : {bytes : List ℕ} {count : ℕ} → PairsWithin bytes count
 within-below {bytes} {count} h bytes′ len below =
     record { within = omega (arith, h .within); lots = λ i lt. omega (arith, below i lt, h .lots i lt) }
 
--- A test of every place below the next pair's end, from those below the pair and its two places.
+-- What is so of each byte before pair n, and of its two bytes, is so of each before the next pair.
 pair-more : (P : ℕ → Type 0) (n : ℕ) → ((i : ℕ) → i < 2 * n → P i) → P (2 * n) → P (2 * n + 1) → (i : ℕ) → i < 2 * suc n → P i
 pair-more P n below p q i h = below-more P (2 * n + 1) (below-more P (2 * n) below p) q i (omega arith)
 
@@ -78,14 +78,14 @@ within-pair {bytes} {count} h a b ha hb room =
     record {
       within = simp length-set (omega arith);
       lots = λ i lt.
-        pair-more (λ j. getD (withPair bytes count a b) j 0 ≤ mostLots) count
-        (λ j below. omega (arith, pair-leaves bytes count a b j below, h .lots j below))
-        (omega (arith, pair-first bytes count a b room))
-        (omega (arith, pair-second bytes count a b room))
-        i (omega arith)
+          pair-more (λ j. getD (withPair bytes count a b) j 0 ≤ mostLots) count
+          (λ j below. omega (arith, pair-leaves bytes count a b j below, h .lots j below))
+          (omega (arith, pair-first bytes count a b room))
+          (omega (arith, pair-second bytes count a b room))
+          i (omega arith);
     }
 
--- Pairs of a path whose lots have entries are such.
+-- In a path whose lots have entries, so have the lots of the pairs.
 small-only : (ds : Decisions) → All Small ds → All Small (onlyApart ds)
 unfolding onlyApart
 small-only [] h = tt
@@ -100,25 +100,26 @@ small-bytes bytes (suc n) h i lt =
 
 -- ---- what the methods do to the path that is represented
 
+-- No decision, by what `new` ensures.
 pub new-represents : (c : Classes) (bytes : List ℕ) → c .lots ≡ classes [] → Represents c bytes 0 []
 unfolding setApart onlyApart
 new-represents c bytes e = record { lots = e; pairs = refl }
 
 module _ {c : Classes} {bytes : List ℕ} {count : ℕ} {ds : Decisions} (r : Represents c bytes count ds) where
-  -- What `join` ensures,
+  -- A pair set same, by what `join` ensures of its map.
   pub join-represents : (c′ : Classes) (a b : ℕ) → c′ .lots ≡ merged (classOf (c .lots) a) (classOf (c .lots) b) (c .lots)
       → Represents c′ bytes count (same a b ∷ ds)
   unfolding classes onlyApart
   join-represents c′ a b e =
       record { lots = e ∙ ap (λ (l : List ℕ). merged (classOf l a) (classOf l b) l) (r .lots); pairs = r .pairs }
 
-  -- what `set_apart` ensures,
+  -- A pair set apart, by what `set_apart` ensures of its bytes.
   pub apart-represents : (a b : ℕ) → 2 * count + 2 ≤ length bytes → Represents c (withPair bytes count a b) (count + 1) (apart a b ∷ ds)
   unfolding classes onlyApart
   apart-represents a b h =
       record { lots = r .lots; pairs = rw (add-one count) (ap (λ (earlier : Decisions). apart a b ∷ earlier) (r .pairs) ∙ sym (setApart-pair bytes count a b h)) }
 
-  -- and whatever is written after the pairs.
+  -- Whatever a branch writes after the pairs, the path is represented still.
   pub below-represents : (bytes′ : List ℕ) → ((i : ℕ) → i < 2 * count → getD bytes′ i 0 ≡ getD bytes i 0) → Represents c bytes′ count ds
   below-represents bytes′ below = record { lots = r .lots; pairs = r .pairs ∙ sym (setApart-below bytes bytes′ count below) }
 

@@ -18,10 +18,10 @@ returns : tie.Need-returns
 returns c = rw (sym (one-way (c .before)) ∙ c .if2 .taken) (c .if2 .taken)
 
 returns-2 : tie.Need-returns-2
-returns-2 c = rw (sym (one-way (c .before .before)) ∙ c .before .if2 .left, eq-eqb _ _ (c .if3 .taken))
+returns-2 c = simp (sym (one-way (c .before .before)) ∙ c .before .if2 .left, eq-eqb _ _ (c .if3 .taken))
 
 returns-3 : tie.Need-returns-3
-returns-3 c = rw (sym (one-way (c .before .before)) ∙ c .before .if2 .left, ne-eqb _ _ (c .if3 .left))
+returns-3 c = simp (sym (one-way (c .before .before)) ∙ c .before .if2 .left, ne-eqb _ _ (c .if3 .left))
 
 pub between-spec : {M : Type 1} → statement M
 between-spec = tie.close (tie.spec returns returns-2 returns-3)

@@ -71,19 +71,21 @@ loop-again c =
     let z = getD (h .loop .next .lots) i 0 in
     let len : length l ≡ 129 = search needs in
     let lt : i < length l = omega arith in
-    let same : z ≡ getD l i 0 = ap (λ (r : List ℕ). getD r i 0) (h .loop .inv .2) ∙ here (joinedTo x y) l i lt in
-    (search needs, h .loop .inv .1,
-    ⊎-elim
-    (λ w. ap (λ (m : Classes). m .lots) (w .1)
-        ∙ ap (λ (r : List ℕ). set r i (h .before .if1 .smaller)) (h .loop .inv .2)
-        ∙ turn-sets (joinedTo x y) l i (h .before .if1 .smaller) lt
-        (h .loop .inv .1
-        ∙ ⊎-elim (λ v. first-class x y z (v .taken)) (λ v. second-class x y z (v .1 .taken)) (w .0 .came)
-        ∙ ap (joinedTo x y) same))
-    (λ w. ap (λ (m : Classes). m .lots) (w .2)
-        ∙ h .loop .inv .2
-        ∙ turn-leaves (joinedTo x y) l i lt (sym same ∙ other-class x y z (w .0 .left) (w .1 .left) ∙ ap (joinedTo x y) same))
-    (c .if2 .came))
+    let same : z ≡ getD l i 0 = ap (λ (r : List ℕ). getD r i 0) (h .loop .inv .2) ∙ here (joinedTo x y) l i lt in (
+      search needs,
+      h .loop .inv .1,
+      ⊎-elim
+          (λ w. ap (λ (m : Classes). m .lots) (w .1)
+          ∙ ap (λ (r : List ℕ). set r i (h .before .if1 .smaller)) (h .loop .inv .2)
+          ∙ turn-sets (joinedTo x y) l i (h .before .if1 .smaller) lt
+          (h .loop .inv .1
+          ∙ ⊎-elim (λ v. first-class x y z (v .taken)) (λ v. second-class x y z (v .1 .taken)) (w .0 .came)
+          ∙ ap (joinedTo x y) same))
+          (λ w. ap (λ (m : Classes). m .lots) (w .2)
+          ∙ h .loop .inv .2
+          ∙ turn-leaves (joinedTo x y) l i lt (sym same ∙ other-class x y z (w .0 .left) (w .1 .left) ∙ ap (joinedTo x y) same))
+          (c .if2 .came),
+    )
 
 returns : tie.Need-returns Inv-loop μ-loop
 unfolding merged

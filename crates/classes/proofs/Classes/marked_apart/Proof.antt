@@ -75,11 +75,12 @@ between-requires c κs = search needs
 returns : tie.Need-returns Inv-loop μ-loop
 returns c =
     let h = c .before .before .before .before .before .before .before in
-    let a = h .before .before .before .before .before .before .args in
-    (refl,
-    sym
-    (h .loop .inv .1
-    ∙ found (a .t1 .lots) (a .pairs .now) _ _ (h .loop .left) (omega arith) (sym (c .before .between .ensures) ∙ c .if1 .taken)))
+    let a = h .before .before .before .before .before .before .args in (
+      refl,
+      sym
+          (h .loop .inv .1
+          ∙ found (a .t1 .lots) (a .pairs .now) _ _ (h .loop .left) (omega arith) (sym (c .before .between .ensures) ∙ c .if1 .taken)),
+    )
 
 loop-less : tie.Need-loop-less Inv-loop μ-loop
 loop-less c = search needs
@@ -87,10 +88,11 @@ loop-less c = search needs
 loop-again : tie.Need-loop-again Inv-loop μ-loop
 loop-again c =
     let h = c .before .before .before .before .before .before .before in
-    let a = h .before .before .before .before .before .before .args in
-    (search needs,
-    h .loop .inv .1
-    ∙ passed (a .t1 .lots) (a .pairs .now) _ _ (h .loop .left) (omega arith) (sym (c .before .between .ensures) ∙ c .if1 .left))
+    let a = h .before .before .before .before .before .before .args in (
+      search needs,
+      h .loop .inv .1
+          ∙ passed (a .t1 .lots) (a .pairs .now) _ _ (h .loop .left) (omega arith) (sym (c .before .between .ensures) ∙ c .if1 .left),
+    )
 
 returns-2 : tie.Need-returns-2 Inv-loop μ-loop
 returns-2 c =

@@ -35,11 +35,13 @@ loop-less c = search needs
 
 loop-again : tie.Need-loop-again Inv-loop μ-loop
 loop-again c =
-    let h = c .before in
-    (search needs, simp length-set (omega arith),
-    below-more _ _
-    (λ k lt. getD-set-other (h .loop .lots) (h .loop .i) k _ 0 (λ e. omega arith) ∙ h .loop .inv .2 k lt)
-    (getD-set-same (h .loop .lots) (h .loop .i) _ 0 (omega arith)))
+    let h = c .before in (
+      search needs,
+      simp length-set (omega arith),
+      below-more _ _
+          (λ k lt. getD-set-other (h .loop .lots) (h .loop .i) k _ 0 (λ e. omega arith) ∙ h .loop .inv .2 k lt)
+          (getD-set-same (h .loop .lots) (h .loop .i) _ 0 (omega arith)),
+    )
 
 returns : tie.Need-returns Inv-loop μ-loop
 returns c =
