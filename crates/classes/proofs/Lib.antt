@@ -1,0 +1,3 @@
+pub mod Path
+mod Rewriting
+mod Marks

@@ -1,0 +1,128 @@
+// The classes of a path by value, and its pairs set apart in lent bytes. Each method takes the map and hands it back in its answer.
+ghost use mathlib.Core.Path.{_≡_};
+ghost use mathlib.Core.Bool.{_&&_, _||_};
+ghost use mathlib.Core.List.{[]};
+ghost use Prim.Native.Nat.{_+_, _*_, _≤_};
+ghost use lib.Dec.{eqb};
+ghost use lib.ListN.{length};
+ghost use Rattle.sheet.specs.Format.{mostLots};
+ghost use Rattle.equality.specs.Node.{merged, classOf, classes, marked};
+ghost use Rattle.classes.specs.Pairs.{setApart, withPair, PairsWithin};
+use sheet::Lot;
+
+// An entry for each number that a lot can have, 0 included.
+pub const ENTRIES: usize = 129;
+
+// The entry at a lot's number is the smallest lot of its class.
+pub struct Classes {
+    pub lots: [u8; ENTRIES],
+}
+
+// A lot's smallest lot, and the map.
+pub struct Smallest {
+    pub classes: Classes,
+    pub lot: Lot,
+}
+
+// Whether the classes of two lots are marked apart, and the map.
+pub struct Marked {
+    pub classes: Classes,
+    pub marked: bool,
+}
+
+// Of two lots, whose classes are u and v, one is in class x and one in class y.
+fn between(x: u8, y: u8, u: u8, v: u8) -> bool
+    ensures { λ r. ⌜ r ≡ (eqb u x && eqb v y || eqb u y && eqb v x) ⌝ }
+{
+    u == x && v == y || u == y && v == x
+}
+
+// Write a pair set apart after the first `count`.
+pub fn set_apart(pairs: &mut [u8], count: usize, a: Lot, b: Lot)
+    requires { ⌜ (2 * count + 2 ≤ length (now pairs)) × (a .0 ≤ mostLots) × (b .0 ≤ mostLots) ⌝ }
+    ensures { λ r. ⌜ now (pairs .exit) ≡ withPair (now (pairs .entry)) count (a .0) (b .0) ⌝ }
+{
+    let at = 2 * count;
+    pairs[at] = a.0 as u8;
+    pairs[at + 1] = b.0 as u8;
+}
+
+impl Classes {
+    // Every lot alone.
+    pub fn new() -> Classes
+        ensures { λ r. ⌜ r .lots ≡ classes [] ⌝ }
+    {
+        let mut lots = [0u8; ENTRIES];
+        let mut i: usize = 0;
+        while i < ENTRIES {
+            lots[i] = i as u8;
+            i += 1;
+        }
+        Classes { lots }
+    }
+
+    // The classes of a and b become one: every lot of both gets the smaller of the two numbers.
+    pub fn join(self, a: Lot, b: Lot) -> Classes
+        requires { ⌜ (a .0 ≤ mostLots) × (b .0 ≤ mostLots) ⌝ }
+        ensures { λ r. ⌜ r .lots ≡ merged (classOf (self .lots) (a .0)) (classOf (self .lots) (b .0)) (self .lots) ⌝ }
+    {
+        let first = a.0 as usize;
+        let second = b.0 as usize;
+        let x = self.lots[first];
+        let y = self.lots[second];
+        let smaller = if x < y { x } else { y };
+        let mut next = self;
+        let mut i: usize = 0;
+        while i < ENTRIES {
+            let z = next.lots[i];
+            if z == x || z == y {
+                next.lots[i] = smaller;
+            }
+            i += 1;
+        }
+        next
+    }
+
+    // The smallest lot of a lot's class.
+    pub fn smallest_lot(self, lot: Lot) -> Smallest
+        requires { ⌜ lot .0 ≤ mostLots ⌝ }
+        ensures { λ r. ⌜ (r .classes ≡ self) × (r .lot .0 ≡ classOf (self .lots) (lot .0)) ⌝ }
+    {
+        let i = lot.0 as usize;
+        let smallest = self.lots[i];
+        Smallest {
+            classes: self,
+            lot: Lot(smallest as u16),
+        }
+    }
+
+    // Whether some pair of the first `count` has one lot in the class of a and one in the class of b, the latest pair first.
+    pub fn marked_apart(self, pairs: &[u8], count: usize, a: Lot, b: Lot) -> Marked
+        requires { ⌜ PairsWithin (now pairs) count × (a .0 ≤ mostLots) × (b .0 ≤ mostLots) ⌝ }
+        ensures classes { λ r. ⌜ r .classes ≡ self ⌝ }
+        ensures marked { λ r. ⌜ r .marked ≡ marked (self .lots) (setApart (now (pairs .entry)) count) (classOf (self .lots) (a .0)) (classOf (self .lots) (b .0)) ⌝ }
+    {
+        let first = a.0 as usize;
+        let second = b.0 as usize;
+        let x = self.lots[first];
+        let y = self.lots[second];
+        let mut left = count;
+        while 0 < left {
+            left -= 1;
+            let p = pairs[2 * left];
+            let q = pairs[2 * left + 1];
+            let u = self.lots[p as usize];
+            let v = self.lots[q as usize];
+            if between(x, y, u, v) {
+                return Marked {
+                    classes: self,
+                    marked: true,
+                };
+            }
+        }
+        Marked {
+            classes: self,
+            marked: false,
+        }
+    }
+}
