@@ -16,3 +16,4 @@ pub mod Branching
 pub mod Evaluator
 pub mod Agree
 pub mod Sheets
+pub mod Passing

@@ -1,3 +1,3 @@
-mod Passing
+mod Numbered
 mod Scanning
 mod Entry

@@ -9,12 +9,13 @@ use Rattle.sheet.proofs.Accepted.{has-record, sound}
 use Rattle.sheet.proofs.ChainEnds.{rest-shorter}
 use Rattle.equality.specs.Meaning.{holds}
 use Rattle.equality.specs.Evaluator.{numberIn}
-use Rattle.evaluator.proofs.Passing.{Passing, passing-start, lots-numbered, found, passing-next, ended}
+use Rattle.equality.proofs.Passing.{Passing, passing-start, found, passing-next, ended}
+use Rattle.evaluator.proofs.Numbered.{lots-numbered}
 use Rattle.evaluator.proofs.is_met.Statement.{statement}
 use Rattle.evaluator.proofs.is_met.Tie as tie
 
 abbrev Inv-loop : tie.InvT-loop
-Inv-loop sheet m grouping at₀ at = Passing sheet grouping (at₀ .0) (at .0)
+Inv-loop sheet m grouping at₀ at = Passing (numberIn grouping) sheet (at₀ .0) (at .0)
 
 abbrev μ-loop : tie.MeasureT-loop
 μ-loop sheet m grouping at₀ at = length (recordsFrom sheet (at .0))
@@ -38,7 +39,7 @@ is-true-requires c κs =
     let h = c .before .before .before in
     let start = h .before .before .before in
     rw (c .term-at .ensures)
-    (lots-numbered (start .args .sheet .now) (start .args .grouping .now) (start .args .m) (start .pre .0) (start .args .head .0) (h .loop .at .0) (h .loop .inv) (record-number (c .before)))
+    (lots-numbered (start .args .sheet .now) (start .args .grouping .now) (start .args .m) (start .pre .0) (h .loop .at .0) (record-number (c .before)) (h .loop .inv .within))
 
 -- What `is_true` answers is whether the record's term is true.
 answer : (c : tie.After-is-true Inv-loop μ-loop)
@@ -54,7 +55,7 @@ returns c =
     let h = c .before .before .before .before .before in
     let start = h .before .before .before in
     sym
-    (found (start .args .sheet .now) (start .args .grouping .now) (start .args .m) (start .pre .0) (start .args .head .0) (h .loop .at .0) (h .loop .inv)
+    (found (numberIn (start .args .grouping .now)) (start .args .sheet .now) (start .pre .0 .accepted) (start .args .head .0) (h .loop .at .0) (h .loop .inv)
     (record-number (c .before .before .before))
     (sym (answer (c .before)) ∙ c .if2 .taken))
 
@@ -70,7 +71,7 @@ loop-again c =
     let h = c .before .before .before .before .before .before in
     let start = h .before .before .before in
     rw (c .before .before .before .term-at .ensures)
-    (passing-next (start .args .sheet .now) (start .args .grouping .now) (start .args .m) (start .pre .0) (start .args .head .0) (h .loop .at .0) (h .loop .inv)
+    (passing-next (numberIn (start .args .grouping .now)) (start .args .sheet .now) (start .pre .0 .accepted) (start .args .head .0) (h .loop .at .0) (h .loop .inv)
     (record-number (c .before .before .before .before))
     (sym (answer (c .before .before)) ∙ c .before .if2 .left))
 
@@ -79,7 +80,7 @@ returns-2 c =
     let h = c .before .before in
     let start = h .before .before .before in
     sym
-    (ended (start .args .sheet .now) (start .args .grouping .now) (start .args .m) (start .pre .0) (start .args .head .0) (h .loop .at .0) (h .loop .inv) (c .if1 .left))
+    (ended (numberIn (start .args .grouping .now)) (start .args .sheet .now) (start .pre .0 .accepted) (start .args .head .0) (h .loop .at .0) (h .loop .inv) (c .if1 .left))
 
 pub is-met-spec : {M : Type 1} → statement M
 is-met-spec =
