@@ -2,11 +2,12 @@
 -- The measure is what is left up to the end.
 use Prim.Native.Nat.{_*_, _-_, _≤_}
 use mathlib.Core.List.{_++_}
-use mathlib.Core.Path.{_≡_, refl, ap, _∙_}
+use mathlib.Core.Path.{_≡_}
 use native.Mathlib.Omega.{arith}
-use borrow.Author.Fill.{fill-none, fill-more}
+use borrow.Author.Fill.{fill-more}
 use borrow.Author.Needs.{needs}
-use lib.ListN.{length, set, drop, replicate, length-append, length-replicate, length-drop}
+use lib.ListN.{length, drop, replicate, length-set}
+use Rattle.store.specs.Records.{recordLength}
 use Rattle.store.proofs.clear.Statement.{statement}
 use Rattle.store.proofs.clear.Tie as tie
 
@@ -33,13 +34,19 @@ loop-less : tie.Need-loop-less Inv-loop μ-loop
 loop-less c = search needs
 
 loop-again : tie.Need-loop-again Inv-loop μ-loop
-loop-again c = ?
+loop-again c =
+    let inv = c .before .loop .inv in
+    (rw (inv .0) (fill-more (c .before .loop .i) 0 (c .before .before .args .store .now) (omega arith)),
+    simp length-set (inv .1),
+    omega arith)
 
 same-length : tie.Need-same-length Inv-loop μ-loop
 same-length c = search needs
 
 returns : tie.Need-returns Inv-loop μ-loop
-returns c = ?
+returns c =
+    let done : c .before .loop .i ≡ recordLength * c .before .before .args .count = omega arith in
+    rw done at (c .before .loop .inv .0)
 
 pub clear-spec : {M : Type 1} → statement M
 clear-spec =
