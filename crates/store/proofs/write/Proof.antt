@@ -53,14 +53,14 @@ same-length-3 c = search needs
 
 returns-3 : tie.Need-returns-3
 unfolding encode
-returns-3 c = let call = c .before .before in rw (call .before .before .enum-told .given) (call .put-fields3 .ensures)
+returns-3 c = let call = c .before .before in rw (call .before .before .enum-told .given .1) (call .put-fields3 .ensures)
 
 same-length-4 : tie.Need-same-length-4
 same-length-4 c = search needs
 
 returns-4 : tie.Need-returns-4
 unfolding encode
-returns-4 c = let call = c .before .before in rw (call .before .before .enum-told2 .given) (call .put-fields4 .ensures)
+returns-4 c = let call = c .before .before in rw (call .before .before .enum-told2 .given .1) (call .put-fields4 .ensures)
 
 pub write-spec : {M : Type 1} → statement M
 write-spec =
