@@ -1,4 +1,5 @@
--- For the contracts of the code; this file states nothing of document 01.
+-- For the contracts of the code; this file states nothing of document 01. `declared.NodeRecord` is the code's enum, and `NodeRecord` the
+-- definitions' data.
 use Prim.Native.Nat.{ℕ, _*_, _<_, _≤_}
 use mathlib.Core.List.{List}
 use lib.ListN.{length}
@@ -20,7 +21,7 @@ FitsBytes (Ground c) = Unit {0}
 FitsBytes Met = Unit {0}
 FitsBytes Other = Unit {0}
 
--- Record `number`, counted from 1, stands whole in the bytes.
-pub record HasRoom (bytes : List ℕ) (number : ℕ) : Type 0 where
+-- Record `number`, counted from 1, has its place whole within the bytes.
+pub record HasPlace (bytes : List ℕ) (number : ℕ) : Type 0 where
   pub least : 1 ≤ number
   pub whole : recordLength * number ≤ length bytes

@@ -6,7 +6,7 @@ ghost use lib.ListN.{length, drop, replicate};
 ghost use lib.Seq.{sets};
 ghost use Rattle.sheet.specs.Bytes.{twoBytes};
 ghost use Rattle.store.specs.Records.{recordLength, fields, encode, ofKind, recordAt, capacity};
-ghost use Rattle.store.specs.Code.{recordOf, FitsBytes, HasRoom};
+ghost use Rattle.store.specs.Code.{recordOf, FitsBytes, HasPlace};
 use sheet::Condition;
 use sheet::Lot;
 
@@ -32,7 +32,11 @@ pub fn capacity_of(store: &[u8]) -> usize
     ensures { λ r. ⌜ r ≡ capacity (now (store .entry)) ⌝ }
 {
     let whole = store.len() / RECORD_LENGTH;
-    if whole < MOST_NODES { whole } else { MOST_NODES }
+    if whole < MOST_NODES {
+        whole
+    } else {
+        MOST_NODES
+    }
 }
 
 // Where a node record begins.
@@ -55,7 +59,7 @@ fn put_number(store: &mut [u8], at: usize, x: u16)
 
 // Writes the fields of a node record.
 fn put_fields(store: &mut [u8], number: NodeNumber, kind: u8, first: u16, second: u16, next: u16)
-    requires { ⌜ HasRoom (now store) (number .0) ⌝ }
+    requires { ⌜ HasPlace (now store) (number .0) ⌝ }
     ensures { λ _. ⌜ now (store .exit)
         ≡ sets (now (store .entry)) (recordLength * (number .0 - 1)) (fields kind first second next) ⌝ }
 {
@@ -69,7 +73,7 @@ fn put_fields(store: &mut [u8], number: NodeNumber, kind: u8, first: u16, second
 
 // Writes a node record.
 pub fn write(store: &mut [u8], number: NodeNumber, node: NodeRecord)
-    requires { ⌜ HasRoom (now store) (number .0) × FitsBytes node ⌝ }
+    requires { ⌜ HasPlace (now store) (number .0) × FitsBytes node ⌝ }
     ensures { λ _. ⌜ now (store .exit)
         ≡ sets (now (store .entry)) (recordLength * (number .0 - 1)) (encode (recordOf node)) ⌝ }
 {
@@ -83,7 +87,7 @@ pub fn write(store: &mut [u8], number: NodeNumber, node: NodeRecord)
 
 // Writes the next of a node record, once it is known, and leaves the rest of the record as it is.
 pub fn set_next(store: &mut [u8], number: NodeNumber, next: NodeNumber)
-    requires { ⌜ HasRoom (now store) (number .0) × (next .0 < 65536) ⌝ }
+    requires { ⌜ HasPlace (now store) (number .0) × (next .0 < 65536) ⌝ }
     ensures { λ _. ⌜ now (store .exit)
         ≡ sets (now (store .entry)) (recordLength * (number .0 - 1) + 6) (twoBytes (next .0)) ⌝ }
 {
@@ -117,7 +121,7 @@ fn decode_fields(kind: u8, spare: u8, first: u16, second: u16, next: u16) -> Nod
 
 // Reads a node record.
 pub fn read(list: &[u8], number: NodeNumber) -> NodeRecord
-    requires { ⌜ HasRoom (now list) (number .0) ⌝ }
+    requires { ⌜ HasPlace (now list) (number .0) ⌝ }
     ensures { λ r. ⌜ recordOf r ≡ recordAt (now (list .entry)) (number .0) ⌝ }
 {
     let at = place_of(number);

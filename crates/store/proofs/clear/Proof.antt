@@ -35,10 +35,11 @@ loop-less c = search needs
 
 loop-again : tie.Need-loop-again Inv-loop μ-loop
 loop-again c =
-    let inv = c .before .loop .inv in
-    (rw (inv .0) (fill-more (c .before .loop .i) 0 (c .before .before .args .store .now) (omega arith)),
-    simp length-set (inv .1),
-    omega arith)
+    let inv = c .before .loop .inv in (
+      rw (inv .0) (fill-more (c .before .loop .i) 0 (c .before .before .args .store .now) (omega arith)),
+      simp length-set (inv .1),
+      omega arith,
+    )
 
 same-length : tie.Need-same-length Inv-loop μ-loop
 same-length c = search needs
