@@ -1,1 +1,146 @@
-// Node records and the store that holds them. Definitions only, so far (specs/).
+// Node records, and the store and the lists that hold them.
+ghost use mathlib.Core.Path.{_≡_};
+ghost use mathlib.Core.List.{_++_};
+ghost use Prim.Native.Nat.{_+_, _*_, _-_, _≤_, _<_};
+ghost use lib.ListN.{length, drop, replicate};
+ghost use lib.Seq.{sets};
+ghost use Rattle.sheet.specs.Bytes.{twoBytes};
+ghost use Rattle.store.specs.Records.{recordLength, fields, encode, ofKind, recordAt, capacity};
+ghost use Rattle.store.specs.Code.{recordOf, FitsBytes, HasPlace};
+use sheet::Condition;
+use sheet::Lot;
+
+// The bytes of a node record.
+const RECORD_LENGTH: usize = 8;
+
+// The most node records that a store has.
+const MOST_NODES: usize = 65535;
+
+// The number of a node record, from 1; zero stands for none. Term records (sheet::Record) have numbers of their own.
+pub struct NodeNumber(pub u32);
+
+// A node record: a split of two lots with its next, the ground that is a condition, met, or bytes that are none of these.
+pub enum NodeRecord {
+    Split(Lot, Lot, NodeNumber),
+    Ground(Condition),
+    Met,
+    Other,
+}
+
+// How many node records a store has room for.
+pub fn capacity_of(store: &[u8]) -> usize
+    ensures { λ r. ⌜ r ≡ capacity (now (store .entry)) ⌝ }
+{
+    let whole = store.len() / RECORD_LENGTH;
+    if whole < MOST_NODES {
+        whole
+    } else {
+        MOST_NODES
+    }
+}
+
+// Where a node record begins.
+fn place_of(number: NodeNumber) -> usize
+    requires { ⌜ 1 ≤ number .0 ⌝ }
+    ensures { λ p. ⌜ p ≡ recordLength * (number .0 - 1) ⌝ }
+{
+    let n = number.0 as usize;
+    RECORD_LENGTH * (n - 1)
+}
+
+// Writes a two-byte number, low byte first.
+fn put_number(store: &mut [u8], at: usize, x: u16)
+    requires { ⌜ at + 2 ≤ length (now store) ⌝ }
+    ensures { λ _. ⌜ now (store .exit) ≡ sets (now (store .entry)) at (twoBytes x) ⌝ }
+{
+    store[at] = (x % 256) as u8;
+    store[at + 1] = (x / 256) as u8;
+}
+
+// Writes the fields of a node record.
+fn put_fields(store: &mut [u8], number: NodeNumber, kind: u8, first: u16, second: u16, next: u16)
+    requires { ⌜ HasPlace (now store) (number .0) ⌝ }
+    ensures { λ _. ⌜ now (store .exit)
+        ≡ sets (now (store .entry)) (recordLength * (number .0 - 1)) (fields kind first second next) ⌝ }
+{
+    let at = place_of(number);
+    store[at] = kind;
+    store[at + 1] = 0;
+    put_number(store, at + 2, first);
+    put_number(store, at + 4, second);
+    put_number(store, at + 6, next);
+}
+
+// Writes a node record.
+pub fn write(store: &mut [u8], number: NodeNumber, node: NodeRecord)
+    requires { ⌜ HasPlace (now store) (number .0) × FitsBytes node ⌝ }
+    ensures { λ _. ⌜ now (store .exit)
+        ≡ sets (now (store .entry)) (recordLength * (number .0 - 1)) (encode (recordOf node)) ⌝ }
+{
+    match node {
+        NodeRecord::Split(a, b, next) => put_fields(store, number, 1, a.0, b.0, next.0 as u16),
+        NodeRecord::Ground(c) => put_fields(store, number, 2, c.0, 0, 0),
+        NodeRecord::Met => put_fields(store, number, 3, 0, 0, 0),
+        NodeRecord::Other => put_fields(store, number, 0, 0, 0, 0),
+    }
+}
+
+// Writes the next of a node record, once it is known, and leaves the rest of the record as it is.
+pub fn set_next(store: &mut [u8], number: NodeNumber, next: NodeNumber)
+    requires { ⌜ HasPlace (now store) (number .0) × (next .0 < 65536) ⌝ }
+    ensures { λ _. ⌜ now (store .exit)
+        ≡ sets (now (store .entry)) (recordLength * (number .0 - 1) + 6) (twoBytes (next .0)) ⌝ }
+{
+    let at = place_of(number);
+    put_number(store, at + 6, next.0 as u16);
+}
+
+// The node record of these fields, where those that have to be 0 are.
+fn decode_fields(kind: u8, spare: u8, first: u16, second: u16, next: u16) -> NodeRecord
+    ensures { λ r. ⌜ recordOf r ≡ ofKind kind spare first second next ⌝ }
+{
+    match kind {
+        1 => if spare == 0 {
+            NodeRecord::Split(Lot(first), Lot(second), NodeNumber(next as u32))
+        } else {
+            NodeRecord::Other
+        },
+        2 => if spare == 0 && second == 0 && next == 0 {
+            NodeRecord::Ground(Condition(first))
+        } else {
+            NodeRecord::Other
+        },
+        3 => if spare == 0 && first == 0 && second == 0 && next == 0 {
+            NodeRecord::Met
+        } else {
+            NodeRecord::Other
+        },
+        0 | 4..=255 => NodeRecord::Other,
+    }
+}
+
+// Reads a node record.
+pub fn read(list: &[u8], number: NodeNumber) -> NodeRecord
+    requires { ⌜ HasPlace (now list) (number .0) ⌝ }
+    ensures { λ r. ⌜ recordOf r ≡ recordAt (now (list .entry)) (number .0) ⌝ }
+{
+    let at = place_of(number);
+    let first = sheet::format::number_at(list, at + 2);
+    let second = sheet::format::number_at(list, at + 4);
+    let next = sheet::format::number_at(list, at + 6);
+    decode_fields(list[at], list[at + 1], first, second, next)
+}
+
+// Zeroes the first records of a store.
+pub fn clear(store: &mut [u8], count: usize)
+    requires { ⌜ recordLength * count ≤ length (now store) ⌝ }
+    ensures { λ _. ⌜ now (store .exit)
+        ≡ replicate (recordLength * count) 0 ++ drop (recordLength * count) (now (store .entry)) ⌝ }
+{
+    let end = RECORD_LENGTH * count;
+    let mut i = 0;
+    while i < end {
+        store[i] = 0;
+        i += 1;
+    }
+}
