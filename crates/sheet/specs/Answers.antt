@@ -9,7 +9,7 @@ use Rattle.sheet.specs.Format.{lotCount, conditionCount, recordCount}
 use Rattle.sheet.specs.Checks.{sheetVerdict}
 
 -- A service refuses, with document 01's number of the check and its place; or it answers, with up to three values, the others 0. A service's contract
--- equates the answer of the case that it returns, so that the case is fixed and not its numbers alone.
+-- equates the answer of the case that it returns, so that refusing and answering are told apart, and not by their numbers alone.
 pub data Answer : Type 0 where
   refused : ℕ → ℕ → Answer
   answered : ℕ → ℕ → ℕ → Answer

@@ -85,7 +85,8 @@ member x [] = false
 member x (y ∷ ys) = eqb x y || member x ys
 
 -- "A chain is walked from its head, term by term, to the zero.": on from record r, after the records `seen`. It stops at a record
--- that was reached before, so it makes at most one step more than there are records; `fuel` above k is enough, and never decides.
+-- that was reached before. Where checks 4 and 5 pass, it reaches no record but 1 to k, and so makes at most one step more than there are records:
+-- `fuel` above k is enough, and never decides. Where they don't, nobody sees this walk.
 unfoldable pub walkChain : List ℕ → ℕ → List ℕ → ℕ → Walk
 walkChain s zero seen r = reached seen
 walkChain s (suc fuel) seen zero = reached seen
