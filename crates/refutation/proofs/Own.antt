@@ -17,7 +17,7 @@ use Rattle.sheet.proofs.Further.{further-accepted}
 use Rattle.sheet.specs.Conditions.{Term, same, apart, conditions}
 use Rattle.sheet.proofs.Ranges.{All}
 use Rattle.sheet.proofs.Accepted.{InLots, sound}
-use Rattle.sheet.proofs.Conditions.{TermIn, conditions-length, conditions-in, terms-length}
+use Rattle.sheet.proofs.Conditions.{TermIn, conditions-length, conditions-in}
 use Rattle.equality.specs.Node.{Decisions, value, trueOrOpenApart}
 use Rattle.equality.specs.Search.{Tree, metLeaf, groundLeaf, oneBranch, twoBranches, isMet, nodeCount, depth, searchTree}
 use Rattle.equality.proofs.Some.{none-too}
@@ -25,7 +25,7 @@ use Rattle.equality.proofs.Small.{Small, all-map, conditions-small}
 use Rattle.equality.proofs.Rule.{TakenAt, GroundAt, SplitAt, ground-at, ground-false, split-at}
 use Rattle.equality.proofs.Opens.{all-at, pair-small}
 use Rattle.equality.proofs.Visits.{Visits, visits-met, visits-ground, visits-one, visits-two, search-visits}
-use Rattle.equality.proofs.Bounds.{search-depth, all-same-terms}
+use Rattle.equality.proofs.Sheets.{sheet-depth}
 use Rattle.store.specs.Records.{NodeRecord, records, encodeAll, recordLength, mostNodes}
 use Rattle.store.proofs.Codec.{Fits, bytes-count, records-of}
 use Rattle.refutation.specs.Refutation.{mostSplits, Split, decisionsOf, notFalse, groundFails, nearest, turned, afterGround, named, conditionInRange, walkFrom, check10, walkVerdict, listVerdict, Refutes}
@@ -151,8 +151,7 @@ module _ (s : List ℕ) (ok : Accepted s) where
     walk-passes =
         let visits = search-visits (conditions s) (conditions-small s ok) in
         let decoded = records-of (records 1 (searchTree (conditions s))) (own-fit visits tt 1 (omega arith)) in
-        let deep : depth (searchTree (conditions s)) ≤ mostSplits =
-        omega (arith, search-depth (conditions s) (conditions-small s ok), all-same-terms (conditions s), terms-length s ok, sound s ok .header .records) in
+        let deep : depth (searchTree (conditions s)) ≤ mostSplits = sheet-depth s ok in
         ap (λ (list : List NodeRecord). walkFrom s list 1 []) (decoded ∙ sym (append-nil (records 1 (searchTree (conditions s)))))
         ∙ own-walk visits m tt [] refl (omega arith) 1 []
 
