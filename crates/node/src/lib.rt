@@ -2,7 +2,7 @@
 ghost use mathlib.Core.Path.{_≡_};
 ghost use Rattle.sheet.specs.Conditions.{conditions};
 ghost use Rattle.equality.specs.Node.{Decisions, classes, taken};
-ghost use Rattle.node.specs.Scan.{takenAs, Scannable};
+ghost use Rattle.node.specs.Scan.{takenAs, TakenWithin, Scannable};
 use classes::Classes;
 use sheet::Condition;
 
@@ -17,7 +17,8 @@ pub enum Taken {
 // hands the map back would copy it for each term.
 pub fn scan(sheet: &[u8], m: u16, map: Classes) -> Taken
     requires { ⌜ Scannable (now sheet) m ⌝ }
-    ensures { λ r. ⌜ ((ds : Decisions) → map .lots ≡ classes ds → takenAs (now (sheet .entry)) r ≡ taken ds 1 (conditions (now (sheet .entry)))) ⌝ }
+    ensures taken { λ r. ⌜ ((ds : Decisions) → map .lots ≡ classes ds → takenAs (now (sheet .entry)) r ≡ taken ds 1 (conditions (now (sheet .entry)))) ⌝ }
+    ensures within { λ r. ⌜ TakenWithin m r ⌝ }
 {
     let lots = map.lots;
     let mut c: u16 = 0;

@@ -130,9 +130,11 @@ terms-again c =
 
 returns : tie.Need-returns Inv-terms μ-terms Inv-conditions μ-conditions
 returns c =
-    let start = c .before .before .before .before in
-    taken-by-map (start .args .map .lots) (conditions (start .args .sheet .now))
-    (none-taken (classOf (start .args .map .lots)) (start .args .sheet .now) (c .before .conditions .c) (c .before .conditions .inv) (omega (arith, c .if1 .taken, start .pre .counted)))
+    let start = c .before .before .before .before in (
+      taken-by-map (start .args .map .lots) (conditions (start .args .sheet .now))
+          (none-taken (classOf (start .args .map .lots)) (start .args .sheet .now) (c .before .conditions .c) (c .before .conditions .inv) (omega (arith, c .if1 .taken, start .pre .counted))),
+      tt,
+    )
 
 returns-2 : tie.Need-returns-2 Inv-terms μ-terms Inv-conditions μ-conditions
 returns-2 c =
@@ -141,10 +143,13 @@ returns-2 c =
     let s = start .args .sheet .now in
     let head = c .before .before .before in
     let unmet = ended f s (start .pre .accepted) (head .head-at .result .0) (c .before .before .terms .at .0) (c .before .before .terms .inv) (c .if2 .taken) in
-    rw add-one
-    (taken-by-map (start .args .map .lots) (conditions s)
-    (taken-here f s (head .before .before .conditions .c) (head .before .before .conditions .inv) (numbered (head .before))
-    (ap (λ (r : ℕ). meetsCondition f (termsFrom s r)) (sym (head-of head)) ∙ unmet)))
+    let below = numbered (head .before) in (
+      rw add-one
+          (taken-by-map (start .args .map .lots) (conditions s)
+          (taken-here f s (head .before .before .conditions .c) (head .before .before .conditions .inv) below
+          (ap (λ (r : ℕ). meetsCondition f (termsFrom s r)) (sym (head-of head)) ∙ unmet))),
+      (omega arith, omega (arith, below, start .pre .counted)),
+    )
 
 pub scan-spec : {M : Type 1} → statement M
 scan-spec =
