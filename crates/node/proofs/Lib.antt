@@ -1,1 +1,3 @@
 mod Scanning
+mod Opening
+mod Resuming

@@ -1,15 +1,42 @@
-// One node of the search: the condition that it takes.
+// One node of the search: the condition that it takes, and what it is.
+ghost use mathlib.Core.Bool.{false};
 ghost use mathlib.Core.Path.{_≡_};
-ghost use Rattle.sheet.specs.Conditions.{conditions};
-ghost use Rattle.equality.specs.Node.{Decisions, classes, taken};
+ghost use Prim.Native.Nat.{ℕ, _≤_};
+ghost use Rattle.sheet.specs.Format.{recordCount};
+ghost use Rattle.sheet.specs.Conditions.{termsFrom, conditions};
+ghost use Rattle.equality.specs.Node.{Decisions, classes, passedOver, taken, groundOrSplit, node};
+ghost use Rattle.classes.specs.Pairs.{PairsWithin, Represents};
 ghost use Rattle.node.specs.Scan.{takenAs, TakenWithin, Scannable};
+ghost use Rattle.node.specs.Resume.{openAs, OpenLeaves, nodeAs, ResumesWithin, Resumes, Leaves, StartsWithin};
 use classes::Classes;
 use sheet::Condition;
+use sheet::Lot;
+use sheet::Record;
 
 // The condition that a node takes, or none.
 pub enum Taken {
     Lowest(Condition),
     Nothing,
+}
+
+// The first open term of the taken condition from a record on: its lots, and the record after it; or none.
+pub enum Open {
+    At(Lot, Lot, Record),
+    Nothing,
+}
+
+// Where a visit goes on: scan all conditions; or within this condition, from this record on (the apart branch of a split: the same condition is taken,
+// and no term up to the split term is open any more).
+pub enum Resume {
+    Scan,
+    Within(Condition, Record),
+}
+
+// What a node is. A split also says its condition and the record after the term that it splits on, where the apart branch resumes.
+pub enum Node {
+    Met,
+    Ground(Condition),
+    Split(Condition, Lot, Lot, Record),
 }
 
 // The lowest-numbered condition that has no true term and no open "apart" term. A condition is passed over exactly where the classes meet it: some "same"
@@ -40,6 +67,80 @@ pub fn scan(sheet: &[u8], m: u16, map: Classes) -> Taken
                 continue 'conditions;
             }
             at = t.next;
+        }
+    }
+}
+
+// The first open term from a record on. In the taken condition no term is true, so an "apart" term is false, and a "same" term is open exactly where its
+// classes are not marked apart (`unsettled-value`).
+pub fn first_open(
+    sheet: &[u8],
+    m: u16,
+    map: Classes,
+    pairs: &[u8],
+    count: usize,
+    from: Record,
+) -> Open
+    requires { ⌜ Scannable (now sheet) m × PairsWithin (now pairs) count × (from .0 ≤ recordCount (now sheet)) ⌝ }
+    ensures node { λ r. ⌜ ((ds : Decisions) → Represents map (now (pairs .entry)) count ds → passedOver ds (termsFrom (now (sheet .entry)) (from .0)) ≡ false → (c : ℕ) → openAs c r ≡ groundOrSplit ds c (termsFrom (now (sheet .entry)) (from .0))) ⌝ }
+    ensures leaves { λ r. ⌜ ((ds : Decisions) → Represents map (now (pairs .entry)) count ds → passedOver ds (termsFrom (now (sheet .entry)) (from .0)) ≡ false → OpenLeaves (now (sheet .entry)) (from .0) r ds) ⌝ }
+{
+    let mut at = from;
+    while at.0 != 0 {
+        let t = sheet::format::term_at(sheet, m, at);
+        let a = t.a;
+        let b = t.b;
+        let next = t.next;
+        if t.sign == 1 {
+            let mark = map.marked_apart(pairs, count, a, b);
+            if !mark.marked {
+                return Open::At(a, b, next);
+            }
+        }
+        at = next;
+    }
+    Open::Nothing
+}
+
+// What a node is that takes this condition, none of whose terms before a record is open.
+fn ground_or_split(
+    sheet: &[u8],
+    m: u16,
+    map: Classes,
+    pairs: &[u8],
+    count: usize,
+    c: Condition,
+    from: Record,
+) -> Node
+    requires { ⌜ Scannable (now sheet) m × PairsWithin (now pairs) count × (from .0 ≤ recordCount (now sheet)) ⌝ }
+    ensures node { λ r. ⌜ ((ds : Decisions) → Represents map (now (pairs .entry)) count ds → ResumesWithin (now (sheet .entry)) (c .0) (from .0) ds → nodeAs r ≡ node ds (conditions (now (sheet .entry)))) ⌝ }
+    ensures leaves { λ r. ⌜ ((ds : Decisions) → Represents map (now (pairs .entry)) count ds → ResumesWithin (now (sheet .entry)) (c .0) (from .0) ds → Leaves (now (sheet .entry)) r ds) ⌝ }
+{
+    let first = first_open(sheet, m, map, pairs, count, from);
+    match first {
+        Open::At(a, b, after) => Node::Split(c, a, b, after),
+        Open::Nothing => Node::Ground(c),
+    }
+}
+
+// The node of a path, whose classes and pairs set apart are given: met where the scan finds no condition to take, otherwise a ground or a split of the
+// condition taken. A visit that resumes within that condition scans nothing again.
+pub fn node_at(sheet: &[u8], m: u16, map: Classes, pairs: &[u8], count: usize, from: Resume) -> Node
+    requires { ⌜ Scannable (now sheet) m × PairsWithin (now pairs) count × StartsWithin (now sheet) from ⌝ }
+    ensures node { λ r. ⌜ ((ds : Decisions) → Represents map (now (pairs .entry)) count ds → Resumes (now (sheet .entry)) from ds → nodeAs r ≡ node ds (conditions (now (sheet .entry)))) ⌝ }
+    ensures leaves { λ r. ⌜ ((ds : Decisions) → Represents map (now (pairs .entry)) count ds → Resumes (now (sheet .entry)) from ds → Leaves (now (sheet .entry)) r ds) ⌝ }
+{
+    match from {
+        Resume::Within(c, after) => ground_or_split(sheet, m, map, pairs, count, c, after),
+        Resume::Scan => {
+            let taken = scan(sheet, m, map);
+            match taken {
+                Taken::Nothing => Node::Met,
+                Taken::Lowest(c) => {
+                    let head = sheet::format::head_at(sheet, c);
+                    ground_or_split(sheet, m, map, pairs, count, c, head)
+                }
+            }
         }
     }
 }

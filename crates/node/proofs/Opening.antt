@@ -1,0 +1,168 @@
+-- The loop over the terms of the taken condition: those that it has passed are not open, and neither they nor the open term where it leaves are open once
+-- that term's lots are set apart.
+use Prim.Native.Nat.{ℕ, _≤_}
+use mathlib.Core.Bool.{Bool, true, false, cond, false≢true}
+use mathlib.Core.List.{List, [], _∷_, _++_, append-nil, append-assoc}
+use mathlib.Core.Logic.{_≢_}
+use mathlib.Core.Path.{_≡_, refl, sym, ap, _∙_}
+use borrow.Author.Tests.{ne-eqb}
+use native.Mathlib.Omega.{arith}
+use Rattle.sheet.specs.Format.{recordCount, nextAt}
+use Rattle.sheet.specs.Checks.{Accepted}
+use Rattle.sheet.specs.Conditions.{Term, same, apart, termOf, termAt, termsFrom}
+use Rattle.sheet.proofs.Ranges.{All}
+use Rattle.sheet.proofs.Accepted.{sound}
+use Rattle.sheet.proofs.ChainEnds.{terms-end, terms-step}
+use Rattle.equality.specs.Node.{Decisions, classOf, marked, markedApart, Value, isFalse, isOpen, value, trueOrOpenApart, passedOver, ground, split, openOr, groundOrSplit}
+use Rattle.equality.proofs.Small.{all-map}
+use Rattle.equality.proofs.Some.{some-false, some-none}
+use Rattle.equality.proofs.Node.{openSame, taken-values, passed-by}
+use Rattle.equality.proofs.Steps.{closedTerm, open-not-closed, not-closed-open, apart-closed, apart-closes}
+use Rattle.classes.specs.Pairs.{setApart}
+use Rattle.node.specs.Resume.{PassesTo}
+
+-- ---- parts of a condition
+
+all-first : {A : Type 0} (P : A → Type 0) (xs ys : List A) → All P (xs ++ ys) → All P xs
+all-first P [] ys h = tt
+all-first P (x ∷ xs) ys h = (h .0, all-first P xs ys (h .1))
+
+all-second : {A : Type 0} (P : A → Type 0) (xs ys : List A) → All P (xs ++ ys) → All P ys
+all-second P [] ys h = h
+all-second P (x ∷ xs) ys h = all-second P xs ys (h .1)
+
+pub all-both : {A : Type 0} (P : A → Type 0) (xs ys : List A) → All P xs → All P ys → All P (xs ++ ys)
+all-both P [] ys h k = k
+all-both P (x ∷ xs) ys h k = (h .0, all-both P xs ys (h .1) k)
+
+-- Where no term makes the node pass a condition over, none of its last terms does.
+pub unsettled-rest : (ds : Decisions) (before after : List Term) → passedOver ds (before ++ after) ≡ false → passedOver ds after ≡ false
+unsettled-rest ds before after e =
+    some-false (λ t. trueOrOpenApart t (value ds t)) after
+    (all-second (λ t. trueOrOpenApart t (value ds t) ≡ false) before after (some-none (λ t. trueOrOpenApart t (value ds t)) (before ++ after) e))
+
+-- ---- terms of which none is open
+
+false-open : {v : Value} → v ≡ isOpen → v ≡ isFalse → ⊥
+false-open o f = let z : _≡_ {A = ℕ} 0 1 = cc in omega arith
+
+abbrev pub NoneOpen : Decisions → List Term → Type 0
+NoneOpen ds ts = All (λ t. value ds t ≢ isOpen) ts
+
+pub none-ground : (ds : Decisions) (ts : List Term) → NoneOpen ds ts → (c : ℕ) → groundOrSplit ds c ts ≡ ground c
+unfolding groundOrSplit
+none-ground ds ts none c = ap (groundOrSplit ds c) (sym (append-nil ts)) ∙ passed-by ds c ts [] none
+
+-- Once a pair is set apart, what was not open is not,
+module _ (ds : Decisions) (a b : ℕ) where
+  closed-later : (t : Term) → closedTerm ds t ≡ true → closedTerm (apart a b ∷ ds) t ≡ true
+  closed-later (same u v) e = apart-closed ds a b u v e
+  closed-later (apart u v) e = apart-closed ds a b u v e
+
+  closed-stays : (t : Term) → value ds t ≢ isOpen → value (apart a b ∷ ds) t ≢ isOpen
+  closed-stays t n = go (closedTerm ds t) refl
+    where
+      go : (p : Bool) → closedTerm ds t ≡ p → value (apart a b ∷ ds) t ≢ isOpen
+      go true e = λ o. false≢true (sym (open-not-closed (apart a b ∷ ds) t o) ∙ closed-later t e)
+      go false e = absurd (n (not-closed-open ds t e))
+
+  pub none-later : (ts : List Term) → NoneOpen ds ts → NoneOpen (apart a b ∷ ds) ts
+  none-later ts none = all-map closed-stays ts none
+
+  -- and the pair is not either.
+  pub pair-later : value (apart a b ∷ ds) (same a b) ≢ isOpen
+  pair-later o = false≢true (sym (open-not-closed (apart a b ∷ ds) (same a b) o) ∙ apart-closes ds a b)
+
+-- ---- the loop
+
+-- What `marked_apart` answers, by the map's classes and the pairs.
+abbrev pub marksOf : List ℕ → List ℕ → ℕ → ℕ → ℕ → Bool
+marksOf lots pairs count a b = marked lots (setApart pairs count) (classOf lots a) (classOf lots b)
+
+-- A term that the classes do not make true is not open, by these marks: it is "apart", or its classes are marked apart.
+abbrev pub closedBy : (ℕ → ℕ → Bool) → Term → Bool
+closedBy marks (same a b) = marks a b
+closedBy marks (apart a b) = true
+
+-- A record's term by its sign.
+pub sign-same : (sign a b : ℕ) → sign ≡ 1 → termOf sign a b ≡ same a b
+sign-same sign a b e = rw e
+
+pub sign-apart : (sign a b : ℕ) → sign ≢ 1 → termOf sign a b ≡ apart a b
+sign-apart sign a b n = rw (ne-eqb sign 1 n)
+
+-- Of the chain from record `from` on, the terms before record `at` are closed by the marks.
+pub record Opening (marks : ℕ → ℕ → Bool) (s : List ℕ) (from at : ℕ) : Type 0 where
+  pub within : at ≤ recordCount s
+  pub passed : List Term
+  pub closed : All (λ t. closedBy marks t ≡ true) passed
+  pub place : termsFrom s from ≡ passed ++ termsFrom s at
+
+pub opening-start : (marks : ℕ → ℕ → Bool) (s : List ℕ) (from : ℕ) → from ≤ recordCount s → Opening marks s from from
+opening-start marks s from h = record { within = h; passed = []; closed = tt; place = refl }
+
+module _ (marks : ℕ → ℕ → Bool) (s : List ℕ) (ok : Accepted s) (from at : ℕ) (l : Opening marks s from at) where
+  stepped : 1 ≤ at → termsFrom s from ≡ (l .passed ++ termAt s at ∷ []) ++ termsFrom s (nextAt s at)
+  stepped h =
+      l .place
+      ∙ ap (λ (ts : List Term). l .passed ++ ts) (terms-step s ok at h (l .within))
+      ∙ sym (append-assoc (l .passed) (termAt s at ∷ []) (termsFrom s (nextAt s at)))
+
+  -- A closed term is passed.
+  pub opening-next : 1 ≤ at → closedBy marks (termAt s at) ≡ true → Opening marks s from (nextAt s at)
+  opening-next h e =
+      record {
+        within = sound s ok .records at h (l .within) .next;
+        passed = l .passed ++ termAt s at ∷ [];
+        closed = all-both (λ t. closedBy marks t ≡ true) (l .passed) (termAt s at ∷ []) (l .closed) (e, tt);
+        place = stepped h;
+      }
+
+  -- For decisions that have these marks, and do not make any of the terms true:
+  module _ (ds : Decisions) (says : (a b : ℕ) → marks a b ≡ markedApart ds a b) (unsettled : passedOver ds (termsFrom s from) ≡ false) where
+    values : All (λ t. value ds t ≡ openSame ds t) (l .passed ++ termsFrom s at)
+    values = rw (l .place) at (taken-values ds (termsFrom s from) unsettled)
+
+    not-open : (t : Term) → closedBy marks t ≡ true → value ds t ≡ openSame ds t → value ds t ≢ isOpen
+    not-open (same a b) e v o = false-open (sym v ∙ o) (ap (λ p. cond p isFalse isOpen) (sym (says a b) ∙ e))
+    not-open (apart a b) e v o = false-open (sym v ∙ o) refl
+
+    none-passed : NoneOpen ds (l .passed)
+    none-passed = go (l .passed) (l .closed) (all-first _ (l .passed) (termsFrom s at) values)
+      where
+        go : (ts : List Term) → All (λ t. closedBy marks t ≡ true) ts → All (λ t. value ds t ≡ openSame ds t) ts → NoneOpen ds ts
+        go [] e v = tt
+        go (t ∷ ts) e v = (not-open t (e .0) (v .0), go ts (e .1) (v .1))
+
+    -- where the chain ends, none is open;
+    pub none-open : at ≡ 0 → (c : ℕ) → ground c ≡ groundOrSplit ds c (termsFrom s from)
+    none-open e c =
+        let whole : termsFrom s from ≡ l .passed =
+        l .place ∙ ap (λ (r : ℕ). l .passed ++ termsFrom s r) e ∙ ap (λ (ts : List Term). l .passed ++ ts) (terms-end s) ∙ append-nil (l .passed) in
+        rw whole (sym (none-ground ds (l .passed) none-passed c))
+
+    -- a "same" term that is not marked is the first open one,
+    pub open-here : (a b : ℕ) → 1 ≤ at → termAt s at ≡ same a b → marks a b ≡ false → (c : ℕ) → split a b ≡ groundOrSplit ds c (termsFrom s from)
+    unfolding groundOrSplit
+    open-here a b h t e c =
+        let step : termsFrom s at ≡ same a b ∷ termsFrom s (nextAt s at) =
+        terms-step s ok at h (l .within) ∙ ap (λ (u : Term). u ∷ termsFrom s (nextAt s at)) t in
+        let opened : value ds (same a b) ≡ isOpen =
+        (rw step at (all-second _ (l .passed) (termsFrom s at) values)) .0 ∙ ap (λ p. cond p isFalse isOpen) (sym (says a b) ∙ e) in
+        sym
+        (ap (groundOrSplit ds c) (l .place)
+        ∙ passed-by ds c (l .passed) (termsFrom s at) none-passed
+        ∙ ap (groundOrSplit ds c) step
+        ∙ ap (λ (v : Value). openOr (same a b) v (groundOrSplit ds c (termsFrom s (nextAt s at)))) opened)
+
+    -- and once its lots are set apart no term up to it is open.
+    pub open-leaves : (a b : ℕ) → 1 ≤ at → termAt s at ≡ same a b → PassesTo s from (nextAt s at) (apart a b ∷ ds)
+    open-leaves a b h t =
+        record {
+          within = sound s ok .records at h (l .within) .next;
+          passed = l .passed ++ termAt s at ∷ [];
+          place = stepped h;
+          closed =
+              none-ground (apart a b ∷ ds) (l .passed ++ termAt s at ∷ [])
+              (all-both _ (l .passed) (termAt s at ∷ []) (none-later ds a b (l .passed) none-passed) (rw t (pair-later ds a b), tt));
+        }
