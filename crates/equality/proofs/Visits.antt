@@ -2,7 +2,7 @@
 use Prim.Native.Nat.{ℕ, zero, suc, _<_}
 use mathlib.Core.Bool.{Bool, true, false}
 use mathlib.Core.List.{List, [], _∷_}
-use mathlib.Core.Path.{_≡_, refl}
+use mathlib.Core.Path.{_≡_, refl, ap}
 use native.Mathlib.Omega.{arith}
 use Rattle.sheet.specs.Conditions.{Term, same, apart}
 use Rattle.sheet.proofs.Ranges.{All}
@@ -19,6 +19,38 @@ pub data Visits (tss : List (List Term)) : Decisions → Tree → Type 0 where
   visits-one : {ds : Decisions} {a b : ℕ} {t : Tree} → node ds tss ≡ split a b → Visits tss (same a b ∷ ds) t → isMet t ≡ true → Visits tss ds (oneBranch a b t)
   visits-two : {ds : Decisions} {a b : ℕ} {t u : Tree} → node ds tss ≡ split a b → Visits tss (same a b ∷ ds) t → isMet t ≡ false
       → Visits tss (apart a b ∷ ds) u → Visits tss ds (twoBranches a b t u)
+
+-- ---- the tree by the node's kind
+
+-- The tree of a split.
+pub data SplitTree (tss : List (List Term)) (ds : Decisions) (a b : ℕ) : Tree → Type 0 where
+  one : {t : Tree} → Visits tss (same a b ∷ ds) t → isMet t ≡ true → SplitTree tss ds a b (oneBranch a b t)
+  two : {t u : Tree} → Visits tss (same a b ∷ ds) t → isMet t ≡ false → Visits tss (apart a b ∷ ds) u → SplitTree tss ds a b (twoBranches a b t u)
+
+module _ {tss : List (List Term)} {ds : Decisions} where
+  pub met-tree : {t : Tree} → Visits tss ds t → node ds tss ≡ met → t ≡ metLeaf ds
+  met-tree (visits-met e) n = refl
+  met-tree (visits-ground e) n = let z : _≡_ {A = ℕ} 0 1 = cc in absurd (omega arith)
+  met-tree (visits-one e v m) n = let z : _≡_ {A = ℕ} 0 1 = cc in absurd (omega arith)
+  met-tree (visits-two e v m w) n = let z : _≡_ {A = ℕ} 0 1 = cc in absurd (omega arith)
+
+  pub ground-tree : {t : Tree} {c : ℕ} → Visits tss ds t → node ds tss ≡ ground c → t ≡ groundLeaf c
+  ground-tree (visits-met e) n = let z : _≡_ {A = ℕ} 0 1 = cc in absurd (omega arith)
+  ground-tree (visits-ground e) n = ap groundLeaf cc
+  ground-tree (visits-one e v m) n = let z : _≡_ {A = ℕ} 0 1 = cc in absurd (omega arith)
+  ground-tree (visits-two e v m w) n = let z : _≡_ {A = ℕ} 0 1 = cc in absurd (omega arith)
+
+  pub split-tree : {t : Tree} {a b : ℕ} → Visits tss ds t → node ds tss ≡ split a b → SplitTree tss ds a b t
+  split-tree (visits-met e) n = let z : _≡_ {A = ℕ} 0 1 = cc in absurd (omega arith)
+  split-tree (visits-ground e) n = let z : _≡_ {A = ℕ} 0 1 = cc in absurd (omega arith)
+  split-tree {a = a} {b = b} (visits-one {a = x} {b = y} e v m) n =
+      let first : x ≡ a = cc in
+      let second : y ≡ b = cc in
+      rw (← first, ← second) (one v m)
+  split-tree {a = a} {b = b} (visits-two {a = x} {b = y} e v m w) n =
+      let first : x ≡ a = cc in
+      let second : y ≡ b = cc in
+      rw (← first, ← second) (two v m w)
 
 module _ (tss : List (List Term)) (smalls : All (All Small) tss) where
   visits-node : (go : Decisions → Tree) (ds : Decisions) (n : Node) → node ds tss ≡ n

@@ -1,7 +1,7 @@
 -- Node records and their bytes are one codec: what is encoded is decoded again, record by record.
 use Prim.Native.Nat.{ℕ, zero, suc, _+_, _*_, _-_, _/_, _%_, _<_}
-use mathlib.Core.List.{List, [], _∷_, _++_, map}
-use mathlib.Core.Path.{_≡_, refl, ap, _∙_}
+use mathlib.Core.List.{List, [], _∷_, _++_, map, append-assoc}
+use mathlib.Core.Path.{_≡_, refl, sym, ap, _∙_}
 use native.Mathlib.Nat.{add-assoc}
 use native.Mathlib.Omega.{arith}
 use lib.ListN.{length, getD, length-append}
@@ -25,6 +25,13 @@ pub encodeAll-length : (rs : List NodeRecord) → length (encodeAll rs) ≡ reco
 unfolding encodeAll
 encodeAll-length [] = refl
 encodeAll-length (r ∷ rs) = length-append (encode r) (encodeAll rs) ∙ omega (arith, encode-length r, encodeAll-length rs)
+
+-- Records one after the other are bytes one after the other.
+pub encodeAll-append : (xs ys : List NodeRecord) → encodeAll (xs ++ ys) ≡ encodeAll xs ++ encodeAll ys
+unfolding encodeAll
+encodeAll-append [] ys = refl
+encodeAll-append (x ∷ xs) ys =
+    ap (λ (l : List ℕ). encode x ++ l) (encodeAll-append xs ys) ∙ sym (append-assoc (encode x) (encodeAll xs) (encodeAll ys))
 
 -- A search writes as many records as it visits nodes.
 pub records-count : (at : ℕ) (t : Tree) → length (records at t) ≡ nodeCount t

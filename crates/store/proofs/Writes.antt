@@ -1,5 +1,5 @@
 -- Runs of stores, and the bytes of a node record that they leave.
-use Prim.Native.Nat.{ℕ, suc, _+_, _<_}
+use Prim.Native.Nat.{ℕ, suc, _+_, _≤_, _<_}
 use mathlib.Core.List.{List, [], _∷_, _++_}
 use mathlib.Core.Path.{_≡_, refl, sym, ap, _∙_}
 use native.Mathlib.Nat.{add-zero, add-suc, suc-add}
@@ -22,6 +22,12 @@ set-sets : (ys l : List ℕ) (i j x : ℕ) → i < j → set (sets l j ys) i x �
 set-sets [] l i j x h = refl
 set-sets (y ∷ ys) l i j x h =
     set-sets ys (set l j y) i (suc j) x (omega arith) ∙ rw (set-comm l j i y x (λ e. omega arith))
+
+-- A run before another may come after it.
+pub sets-before : (xs ys l : List ℕ) (i j : ℕ) → i + length xs ≤ j → sets (sets l j ys) i xs ≡ sets (sets l i xs) j ys
+sets-before [] ys l i j h = refl
+sets-before (x ∷ xs) ys l i j h =
+    rw (set-sets ys l i j x (omega arith)) (sets-before xs ys (set l i x) (suc i) j (omega arith))
 
 -- A run of stores over another of the same length.
 pub sets-again : (xs ys l : List ℕ) (i : ℕ) → length xs ≡ length ys → sets (sets l i xs) i ys ≡ sets l i ys

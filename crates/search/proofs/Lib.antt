@@ -1,0 +1,4 @@
+pub mod Exploring
+pub mod Standing
+pub mod Splitting
+pub mod Room

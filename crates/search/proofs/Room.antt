@@ -1,0 +1,13 @@
+-- A store that has room for a record more.
+use Prim.Native.Nat.{ℕ, _+_, _<_}
+use mathlib.Core.List.{List}
+use native.Mathlib.Omega.{arith}
+use Rattle.store.specs.Records.{capacity}
+use Rattle.store.specs.Code.{HasPlace}
+
+module _ (store : List ℕ) (before : ℕ) (room : before < capacity store) where
+  pub has-place : HasPlace store (before + 1)
+  has-place = record { least = omega arith; whole = omega arith }
+
+  pub number-fits : before + 1 < 65536
+  number-fits = omega arith

@@ -1,0 +1,120 @@
+-- The path of a visit, as its map and its pairs represent it: what each branch of a split makes of it, and the open "same" terms that fall.
+use Prim.Native.Nat.{ℕ, _+_, _*_, _≤_, _<_}
+use mathlib.Core.Bool.{Bool, cond, _||_}
+use mathlib.Core.List.{List, [], _∷_}
+use mathlib.Core.Path.{_≡_, refl, sym, ap, ap₂, _∙_}
+use native.Mathlib.Omega.{arith}
+use lib.Dec.{eqb}
+use lib.ListN.{length, getD, length-set}
+use Rattle.sheet.specs.Format.{mostLots}
+use Rattle.sheet.specs.Checks.{Accepted}
+use Rattle.sheet.specs.Conditions.{Term, same, apart, conditions}
+use Rattle.equality.specs.Node.{Decisions, merged, classOf, marked, split, node}
+use Rattle.equality.proofs.Small.{conditions-small}
+use Rattle.equality.proofs.Least.{least}
+use Rattle.equality.proofs.Steps.{closed}
+use Rattle.equality.proofs.Rule.{split-at}
+use Rattle.equality.proofs.Opens.{opens, allOpens, pair-small, same-fewer, apart-fewer}
+use Rattle.classes.specs.declared.Classes.{Classes}
+use Rattle.classes.specs.Pairs.{setApart, withPair, PairsWithin, Represents}
+use Rattle.classes.proofs.Path.{join-represents, apart-represents, below-represents, represented-within, smallest-says, marked-says}
+use Rattle.search.specs.Visited.{Standing, Kept, EntriesWithin}
+
+-- ---- the open "same" terms, counted by the map and the pairs: the measure of the visits
+
+-- How many "same" terms are not closed, by a test of when a pair is.
+abbrev openBy : (ℕ → ℕ → Bool) → Term → ℕ
+openBy shut (same a b) = cond (shut a b) 0 1
+openBy shut (apart a b) = 0
+
+unfoldable openTerms : (ℕ → ℕ → Bool) → List Term → ℕ
+openTerms shut [] = 0
+openTerms shut (t ∷ ts) = openBy shut t + openTerms shut ts
+
+unfoldable openInAll : (ℕ → ℕ → Bool) → List (List Term) → ℕ
+openInAll shut [] = 0
+openInAll shut (ts ∷ tss) = openTerms shut ts + openInAll shut tss
+
+-- The lots share an entry, or their entries are marked apart by the pairs.
+abbrev shutBy : List ℕ → List ℕ → ℕ → ℕ → ℕ → Bool
+shutBy lots pairs count a b =
+    eqb (classOf lots a) (classOf lots b) || marked lots (setApart pairs count) (classOf lots a) (classOf lots b)
+
+pub openCount : List ℕ → List ℕ → List ℕ → ℕ → ℕ
+openCount s lots pairs count = openInAll (shutBy lots pairs count) (conditions s)
+
+module _ (shut : ℕ → ℕ → Bool) (ds : Decisions) (agrees : (a b : ℕ) → shut a b ≡ closed ds a b) where
+  open-agrees : (ts : List Term) → openTerms shut ts ≡ opens ds ts
+  unfolding openTerms opens
+  open-agrees [] = refl
+  open-agrees (same a b ∷ ts) = ap₂ _+_ (ap (λ (p : Bool). cond p 0 1) (agrees a b)) (open-agrees ts)
+  open-agrees (apart a b ∷ ts) = ap (λ (n : ℕ). 0 + n) (open-agrees ts)
+
+  all-agrees : (tss : List (List Term)) → openInAll shut tss ≡ allOpens ds tss
+  unfolding openInAll allOpens
+  all-agrees [] = refl
+  all-agrees (ts ∷ tss) = ap₂ _+_ (open-agrees ts) (all-agrees tss)
+
+-- ---- the path
+
+module _ {s : List ℕ} {map : Classes} {pairs : List ℕ} {count : ℕ} {ds : Decisions} (st : Standing s map pairs count ds) where
+  -- The map and the pairs count the open "same" terms of the path.
+  pub counted : openCount s (map .lots) pairs count ≡ allOpens ds (conditions s)
+  unfolding openCount
+  counted =
+      all-agrees (shutBy (map .lots) pairs count) ds
+      (λ a b. ap₂ _||_ (ap₂ eqb (smallest-says (st .represents) a) (smallest-says (st .represents) b)) (marked-says (st .represents) a b))
+      (conditions s)
+
+  pub pairs-within : PairsWithin pairs count
+  pairs-within = represented-within (st .represents) (st .small) (omega (arith, st .room))
+
+  pub entries-within : EntriesWithin (map .lots)
+  entries-within lot h = omega (arith, smallest-says (st .represents) lot, least ds lot h)
+
+  module _ (ok : Accepted s) (a b : ℕ) (e : node ds (conditions s) ≡ split a b) where
+    pub split-small : (a ≤ mostLots) × (b ≤ mostLots)
+    split-small = pair-small ds (st .small) (conditions s) (conditions-small s ok) a b (split-at ds (conditions s) a b e)
+
+    same-falls : allOpens (same a b ∷ ds) (conditions s) < allOpens ds (conditions s)
+    same-falls = same-fewer ds (st .small) (conditions s) (conditions-small s ok) a b (split-at ds (conditions s) a b e)
+
+    apart-falls : allOpens (apart a b ∷ ds) (conditions s) < allOpens ds (conditions s)
+    apart-falls = apart-fewer ds (st .small) (conditions s) (conditions-small s ok) a b (split-at ds (conditions s) a b e)
+
+    -- The same branch, by what `join` ensures;
+    pub same-standing : (map′ : Classes) → map′ .lots ≡ merged (classOf (map .lots) a) (classOf (map .lots) b) (map .lots)
+        → Standing s map′ pairs count (same a b ∷ ds)
+    same-standing map′ joined =
+        record {
+          represents = join-represents (st .represents) map′ a b joined;
+          small = (split-small, st .small);
+          room = omega (arith, st .room, same-falls);
+          size = st .size;
+        }
+
+    -- there is room for a pair more,
+    pub pair-room : 2 * count + 2 ≤ length pairs
+    pair-room = omega (arith, st .room, apart-falls)
+
+    -- and the apart branch, whatever the same branch wrote after the pairs, by what `set_apart` ensures.
+    pub apart-standing : (pairs′ : List ℕ) → length pairs′ ≡ length pairs → Kept pairs pairs′ count
+        → Standing s map (withPair pairs′ count a b) (count + 1) (apart a b ∷ ds)
+    apart-standing pairs′ len kept =
+        record {
+          represents = apart-represents (below-represents (st .represents) pairs′ kept) a b (omega (arith, pair-room));
+          small = (split-small, st .small);
+          room = simp length-set (omega (arith, st .room, apart-falls));
+          size = simp length-set (omega (arith, st .size));
+        }
+
+-- Open "same" terms are fewer in each branch.
+module _ {s : List ℕ} {map : Classes} {pairs : List ℕ} {count : ℕ} {ds : Decisions} (st : Standing s map pairs count ds)
+    (ok : Accepted s) (a b : ℕ) (e : node ds (conditions s) ≡ split a b) where
+  pub same-less : (map′ : Classes) → map′ .lots ≡ merged (classOf (map .lots) a) (classOf (map .lots) b) (map .lots)
+      → openCount s (map′ .lots) pairs count < openCount s (map .lots) pairs count
+  same-less map′ joined = omega (arith, counted (same-standing st ok a b e map′ joined), counted st, same-falls st ok a b e)
+
+  pub apart-less : (pairs′ : List ℕ) → length pairs′ ≡ length pairs → Kept pairs pairs′ count
+      → openCount s (map .lots) (withPair pairs′ count a b) (count + 1) < openCount s (map .lots) pairs count
+  apart-less pairs′ len kept = omega (arith, counted (apart-standing st ok a b e pairs′ len kept), counted st, apart-falls st ok a b e)

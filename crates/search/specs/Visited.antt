@@ -1,0 +1,70 @@
+-- For the contracts of the inner functions; this file states nothing of document 01.
+use Prim.Native.Nat.{ℕ, _+_, _*_, _≤_, _<_}
+use mathlib.Core.Bool.{Bool, true, false, cond}
+use mathlib.Core.List.{List}
+use mathlib.Core.Path.{_≡_}
+use lib.Dec.{leb}
+use lib.ListN.{length, getD}
+use lib.Seq.{sets}
+use Rattle.sheet.specs.Format.{mostLots, mostRecords}
+use Rattle.sheet.specs.Conditions.{conditions}
+use Rattle.sheet.proofs.Ranges.{All}
+use Rattle.equality.specs.Node.{Decisions, classOf}
+use Rattle.equality.specs.Search.{Tree, isMet, nodeCount, metDecisions, groupingBytes}
+use Rattle.equality.proofs.Small.{Small}
+use Rattle.equality.proofs.Opens.{allOpens}
+use Rattle.equality.proofs.Visits.{Visits}
+use Rattle.classes.specs.declared.Classes.{Classes}
+use Rattle.classes.specs.Pairs.{Represents}
+use Rattle.node.specs.declared.Resume.{Resume}
+use Rattle.node.specs.Scan.{Scannable}
+use Rattle.node.specs.Resume.{Resumes}
+use Rattle.store.specs.Records.{records, encodeAll, recordLength, capacity}
+use Rattle.search.specs.declared.Visited.{Visited}
+use Rattle.search.specs.declared.Visited.the-variants.{Met, Cannot, Full}
+
+-- ---- what a visit asks
+
+-- The sheet is accepted, with m conditions, and the grouping has a byte for each lot.
+pub record Searchable (s : List ℕ) (m : ℕ) (grouping : List ℕ) : Type 0 where
+  pub scannable : Scannable s m
+  pub lots : length grouping ≤ mostLots
+
+-- The map and the first `count` pairs are those of the path `ds`, whose lots have entries in the map. The pairs have room for as many more as there are
+-- open "same" terms, and no more room than for one of each term that a sheet can have.
+pub record Standing (s : List ℕ) (map : Classes) (pairs : List ℕ) (count : ℕ) (ds : Decisions) : Type 0 where
+  pub represents : Represents map pairs count ds
+  pub small : All Small ds
+  pub room : 2 * (count + allOpens ds (conditions s)) ≤ length pairs
+  pub size : length pairs ≤ 2 * mostRecords
+
+-- The entry of each lot is a lot.
+abbrev pub EntriesWithin : List ℕ → Type 0
+EntriesWithin lots = (lot : ℕ) → lot ≤ mostLots → classOf lots lot ≤ mostLots
+
+-- ---- what it does
+
+-- A visit leaves the first `count` pairs as they are; it writes after them.
+abbrev pub Kept : List ℕ → List ℕ → ℕ → Type 0
+Kept pairs pairs′ count = (i : ℕ) → i < 2 * count → getD pairs′ i 0 ≡ getD pairs i 0
+
+-- How a visit ends whose nodes, with those before, come to `count` records.
+abbrev pub endWith : Bool → ℕ → Visited
+endWith true count = Met count
+endWith false count = Cannot count
+
+-- How the visit of a tree ends, after `before` records, in a store that holds S.
+abbrev pub endOf : ℕ → ℕ → Tree → Visited
+endOf S before t = cond (leb (before + nodeCount t) S) (endWith (isMet t) (before + nodeCount t)) Full
+
+-- What it leaves of the grouping.
+abbrev pub groupingEnd : Visited → Tree → List ℕ → List ℕ
+groupingEnd (Met count) t grouping = groupingBytes (length grouping) (metDecisions t)
+groupingEnd (Cannot count) t grouping = grouping
+groupingEnd Full t grouping = grouping
+
+-- The visit of a tree after `before` records: how it ends; where there is room, the records that it writes; and the grouping.
+pub record Explored (before : ℕ) (store store′ grouping grouping′ : List ℕ) (r : Visited) (t : Tree) : Type 0 where
+  pub ends : r ≡ endOf (capacity store) before t
+  pub stored : before + nodeCount t ≤ capacity store → store′ ≡ sets store (recordLength * before) (encodeAll (records (before + 1) t))
+  pub grouped : grouping′ ≡ groupingEnd r t grouping
