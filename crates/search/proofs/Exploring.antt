@@ -2,8 +2,8 @@
 -- its tree and no more; one that finds the store full leaves the grouping.
 use Prim.Native.Nat.{ℕ, _+_, _*_, _/_, _≤_, _<_, min}
 use mathlib.Core.Bool.{Bool, true, false, cond}
-use mathlib.Core.List.{List, [], _∷_, _++_, append-nil, append-assoc}
-use mathlib.Core.Path.{_≡_, refl, sym, ap, subst, _∙_}
+use mathlib.Core.List.{List, _∷_, _++_, append-nil}
+use mathlib.Core.Path.{_≡_, refl, sym, ap, _∙_}
 use native.Mathlib.Omega.{arith}
 use borrow.Author.Tests.{le-leb, lt-leb, leb-true, leb-false}
 use lib.Dec.{leb}
@@ -60,26 +60,28 @@ none-explored before store store′ grouping t h =
 
 -- ---- a leaf
 
-module _ (before : ℕ) (store store′ : List ℕ) (grouping : List ℕ) (room : before < capacity store) where
-  pub met-explored : (ds : Decisions) → store′ ≡ sets store (recordLength * before) (encode metRecord)
-      → Explored before store store′ grouping (groupingBytes (length grouping) ds) (Met (before + 1)) (metLeaf ds)
+module _ (before : ℕ) (store store′ grouping : List ℕ) (room : before < capacity store) where
+  pub met-explored : (ds : Decisions) (grouping′ : List ℕ) (t : Tree) → t ≡ metLeaf ds → store′ ≡ sets store (recordLength * before) (encode metRecord)
+      → grouping′ ≡ groupingBytes (length grouping) ds → Explored before store store′ grouping grouping′ (Met (before + 1)) t
   unfolding isMet nodeCount metDecisions records encodeAll
-  met-explored ds e =
-      record {
+  met-explored ds grouping′ t leaf stored grouped =
+      rw leaf
+      (record {
         ends = fits-end (capacity store) before (metLeaf ds) true (omega arith) refl;
-        stored = λ fits. e ∙ ap (sets store (recordLength * before)) (sym (append-nil (encode metRecord)));
-        grouped = refl;
-      }
+        stored = λ fits. stored ∙ ap (sets store (recordLength * before)) (sym (append-nil (encode metRecord)));
+        grouped = grouped;
+      })
 
-  pub ground-explored : (c : ℕ) → store′ ≡ sets store (recordLength * before) (encode (groundRecord c))
-      → Explored before store store′ grouping grouping (Cannot (before + 1)) (groundLeaf c)
-  unfolding isMet nodeCount metDecisions records encodeAll
-  ground-explored c e =
-      record {
+  pub ground-explored : (c : ℕ) (t : Tree) → t ≡ groundLeaf c → store′ ≡ sets store (recordLength * before) (encode (groundRecord c))
+      → Explored before store store′ grouping grouping (Cannot (before + 1)) t
+  unfolding isMet nodeCount records encodeAll
+  ground-explored c t leaf stored =
+      rw leaf
+      (record {
         ends = fits-end (capacity store) before (groundLeaf c) false (omega arith) refl;
-        stored = λ fits. e ∙ ap (sets store (recordLength * before)) (sym (append-nil (encode (groundRecord c))));
+        stored = λ fits. stored ∙ ap (sets store (recordLength * before)) (sym (append-nil (encode (groundRecord c))));
         grouped = refl;
-      }
+      })
 
 -- ---- a split
 

@@ -2,7 +2,7 @@
 use Prim.Native.Nat.{ℕ, _+_, _*_, _≤_, _<_}
 use mathlib.Core.Bool.{Bool, cond, _||_}
 use mathlib.Core.List.{List, [], _∷_}
-use mathlib.Core.Path.{_≡_, refl, sym, ap, ap₂, _∙_}
+use mathlib.Core.Path.{_≡_, refl, ap, ap₂, _∙_}
 use native.Mathlib.Omega.{arith}
 use lib.Dec.{eqb}
 use lib.ListN.{length, getD, length-set}
@@ -16,8 +16,11 @@ use Rattle.equality.proofs.Steps.{closed}
 use Rattle.equality.proofs.Rule.{split-at}
 use Rattle.equality.proofs.Opens.{opens, allOpens, pair-small, same-fewer, apart-fewer}
 use Rattle.classes.specs.declared.Classes.{Classes}
-use Rattle.classes.specs.Pairs.{setApart, withPair, PairsWithin, Represents}
-use Rattle.classes.proofs.Path.{join-represents, apart-represents, below-represents, represented-within, smallest-says, marked-says}
+use Rattle.classes.specs.Pairs.{setApart, withPair, PairsWithin}
+use Rattle.classes.proofs.Path.{pair-leaves, join-represents, apart-represents, below-represents, represented-within, smallest-says, marked-says}
+use Rattle.node.specs.declared.Resume.{Resume}
+use Rattle.node.specs.declared.Resume.the-variants.{Scan, Within}
+use Rattle.node.specs.Resume.{Resumes, StartsWithin}
 use Rattle.search.specs.Visited.{Standing, Kept, EntriesWithin}
 
 -- ---- the open "same" terms, counted by the map and the pairs: the measure of the visits
@@ -56,6 +59,11 @@ module _ (shut : ℕ → ℕ → Bool) (ds : Decisions) (agrees : (a b : ℕ) �
   all-agrees (ts ∷ tss) = ap₂ _+_ (open-agrees ts) (all-agrees tss)
 
 -- ---- the path
+
+-- Where a visit may go on is within the sheet.
+pub starts-within : (s : List ℕ) (from : Resume) (ds : Decisions) → Resumes s from ds → StartsWithin s from
+starts-within s Scan ds resumes = tt
+starts-within s (Within c r) ds resumes = resumes .passes .within
 
 module _ {s : List ℕ} {map : Classes} {pairs : List ℕ} {count : ℕ} {ds : Decisions} (st : Standing s map pairs count ds) where
   -- The map and the pairs count the open "same" terms of the path.
@@ -98,15 +106,16 @@ module _ {s : List ℕ} {map : Classes} {pairs : List ℕ} {count : ℕ} {ds : D
     pair-room = omega (arith, st .room, apart-falls)
 
     -- and the apart branch, whatever the same branch wrote after the pairs, by what `set_apart` ensures.
-    pub apart-standing : (pairs′ : List ℕ) → length pairs′ ≡ length pairs → Kept pairs pairs′ count
-        → Standing s map (withPair pairs′ count a b) (count + 1) (apart a b ∷ ds)
-    apart-standing pairs′ len kept =
-        record {
+    pub apart-standing : (pairs′ pairs″ : List ℕ) → length pairs′ ≡ length pairs → Kept pairs pairs′ count → pairs″ ≡ withPair pairs′ count a b
+        → Standing s map pairs″ (count + 1) (apart a b ∷ ds)
+    apart-standing pairs′ pairs″ len kept set =
+        rw set
+        (record {
           represents = apart-represents (below-represents (st .represents) pairs′ kept) a b (omega (arith, pair-room));
           small = (split-small, st .small);
           room = simp length-set (omega (arith, st .room, apart-falls));
           size = simp length-set (omega (arith, st .size));
-        }
+        })
 
 -- Open "same" terms are fewer in each branch.
 module _ {s : List ℕ} {map : Classes} {pairs : List ℕ} {count : ℕ} {ds : Decisions} (st : Standing s map pairs count ds)
@@ -115,6 +124,16 @@ module _ {s : List ℕ} {map : Classes} {pairs : List ℕ} {count : ℕ} {ds : D
       → openCount s (map′ .lots) pairs count < openCount s (map .lots) pairs count
   same-less map′ joined = omega (arith, counted (same-standing st ok a b e map′ joined), counted st, same-falls st ok a b e)
 
-  pub apart-less : (pairs′ : List ℕ) → length pairs′ ≡ length pairs → Kept pairs pairs′ count
-      → openCount s (map .lots) (withPair pairs′ count a b) (count + 1) < openCount s (map .lots) pairs count
-  apart-less pairs′ len kept = omega (arith, counted (apart-standing st ok a b e pairs′ len kept), counted st, apart-falls st ok a b e)
+  pub apart-less : (pairs′ pairs″ : List ℕ) → length pairs′ ≡ length pairs → Kept pairs pairs′ count → pairs″ ≡ withPair pairs′ count a b
+      → openCount s (map .lots) pairs″ (count + 1) < openCount s (map .lots) pairs count
+  apart-less pairs′ pairs″ len kept set =
+      omega (arith, counted (apart-standing st ok a b e pairs′ pairs″ len kept set), counted st, apart-falls st ok a b e)
+
+-- The same branch, the pair and the apart branch leave the pairs before them.
+pub kept-through : (pairs pairs′ pairs″ pairs‴ : List ℕ) (count a b : ℕ) → Kept pairs pairs′ count → pairs″ ≡ withPair pairs′ count a b → Kept pairs″ pairs‴ (count + 1)
+    → Kept pairs pairs‴ count
+kept-through pairs pairs′ pairs″ pairs‴ count a b same-branch set apart-branch i h =
+    apart-branch i (omega arith)
+    ∙ ap (λ (l : List ℕ). getD l i 0) set
+    ∙ pair-leaves pairs′ count a b i h
+    ∙ same-branch i h

@@ -1,5 +1,4 @@
 -- The search's cases, in document 01's numbers.
-use Prim.Native.Nat.{ℕ}
 use Rattle.sheet.specs.Answers.{Answer, refused, answered}
 use Rattle.search.specs.declared.SearchAnswer.{SearchAnswer}
 use Rattle.search.specs.declared.SearchAnswer.the-variants.{Met, Cannot, Full, Refused}

@@ -13,12 +13,9 @@ use Rattle.equality.specs.Node.{Decisions, classOf}
 use Rattle.equality.specs.Search.{Tree, isMet, nodeCount, metDecisions, groupingBytes}
 use Rattle.equality.proofs.Small.{Small}
 use Rattle.equality.proofs.Opens.{allOpens}
-use Rattle.equality.proofs.Visits.{Visits}
 use Rattle.classes.specs.declared.Classes.{Classes}
 use Rattle.classes.specs.Pairs.{Represents}
-use Rattle.node.specs.declared.Resume.{Resume}
 use Rattle.node.specs.Scan.{Scannable}
-use Rattle.node.specs.Resume.{Resumes}
 use Rattle.store.specs.Records.{records, encodeAll, recordLength, capacity}
 use Rattle.search.specs.declared.Visited.{Visited}
 use Rattle.search.specs.declared.Visited.the-variants.{Met, Cannot, Full}

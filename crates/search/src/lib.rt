@@ -1,11 +1,24 @@
 // The search over a sheet: its answer, the grouping it finds and the nodes it visits.
 ghost use mathlib.Core.Path.{_≡_};
-ghost use Prim.Native.Nat.{_≤_};
+ghost use mathlib.Core.List.{_∷_};
+ghost use Prim.Native.Nat.{_≤_, _<_};
 ghost use lib.ListN.{length, take, drop};
 ghost use Rattle.sheet.specs.Format.{mostLots};
-ghost use Rattle.search.specs.Visited.{EntriesWithin};
+ghost use Rattle.sheet.specs.Conditions.{apart, conditions};
+ghost use Rattle.equality.specs.Node.{Decisions, split, node};
+ghost use Rattle.equality.specs.Search.{Tree};
+ghost use Rattle.equality.proofs.Visits.{Visits};
+ghost use Rattle.node.specs.Resume.{Resumes, ResumesWithin};
+ghost use Rattle.store.specs.Records.{capacity};
+ghost use Rattle.search.specs.Visited.{Searchable, Standing, EntriesWithin, Kept, Explored};
 use classes::Classes;
+use node::Node;
+use node::Resume;
+use sheet::Condition;
 use sheet::Lot;
+use sheet::Record;
+use store::NodeNumber;
+use store::NodeRecord;
 
 // How a visit ended: met, or nothing met under the node, with the records written so far; or the store is full.
 pub enum Visited {
@@ -32,5 +45,119 @@ fn write_grouping(grouping: &mut [u8], map: Classes)
         let smallest = map.smallest_lot(Lot((i + 1) as u16));
         grouping[i] = smallest.lot.0 as u8;
         i += 1;
+    }
+}
+
+// The node of a path, and all under it: its record is written, and a split's branches are visited. `before` records have been written already; `count` is how
+// many pairs the path sets apart.
+fn visit(
+    sheet: &[u8],
+    m: u16,
+    map: Classes,
+    count: usize,
+    from: Resume,
+    before: u32,
+    pairs: &mut [u8],
+    grouping: &mut [u8],
+    store: &mut [u8],
+) -> Visited
+    requires { ⌜ Searchable (now sheet) m (now grouping)
+        × ((ds : Decisions) × (Standing (now sheet) map (now pairs) count ds × Resumes (now sheet) from ds)) ⌝ }
+    ensures visited { λ r. ⌜ ((ds : Decisions) (t : Tree) → Standing (now (sheet .entry)) map (now (pairs .entry)) count ds → Resumes (now (sheet .entry)) from ds
+        → Visits (conditions (now (sheet .entry))) ds t
+        → Explored before (now (store .entry)) (now (store .exit)) (now (grouping .entry)) (now (grouping .exit)) r t) ⌝ }
+    ensures pairs { λ r. ⌜ Kept (now (pairs .entry)) (now (pairs .exit)) count ⌝ }
+{
+    if store::capacity_of(store) <= (before as usize) {
+        return Visited::Full;
+    }
+    let node = node::node_at(sheet, m, map, pairs, count, from);
+    match node {
+        Node::Met => {
+            store::write(store, NodeNumber(before + 1), NodeRecord::Met);
+            write_grouping(grouping, map);
+            Visited::Met(before + 1)
+        }
+        Node::Ground(c) => {
+            store::write(store, NodeNumber(before + 1), NodeRecord::Ground(c));
+            Visited::Cannot(before + 1)
+        }
+        Node::Split(c, a, b, after) => branches(
+            sheet,
+            m,
+            map,
+            count,
+            c,
+            a,
+            b,
+            after,
+            before,
+            pairs,
+            grouping,
+            store,
+        ),
+    }
+}
+
+// A split on two lots: its record, all under its same branch, and, if nothing was met there, all under its apart branch, which goes on in the same condition
+// after the term of the split. The store is seen to have room before the split's next is set, since that has two bytes.
+fn branches(
+    sheet: &[u8],
+    m: u16,
+    map: Classes,
+    count: usize,
+    c: Condition,
+    a: Lot,
+    b: Lot,
+    after: Record,
+    before: u32,
+    pairs: &mut [u8],
+    grouping: &mut [u8],
+    store: &mut [u8],
+) -> Visited
+    requires { ⌜ Searchable (now sheet) m (now grouping) × (before < capacity (now store))
+        × ((ds : Decisions) × (Standing (now sheet) map (now pairs) count ds × (node ds (conditions (now sheet)) ≡ split (a .0) (b .0))
+        × ResumesWithin (now sheet) (c .0) (after .0) (apart (a .0) (b .0) ∷ ds))) ⌝ }
+    ensures visited { λ r. ⌜ ((ds : Decisions) (t : Tree) → Standing (now (sheet .entry)) map (now (pairs .entry)) count ds
+        → node ds (conditions (now (sheet .entry))) ≡ split (a .0) (b .0) → ResumesWithin (now (sheet .entry)) (c .0) (after .0) (apart (a .0) (b .0) ∷ ds)
+        → Visits (conditions (now (sheet .entry))) ds t
+        → Explored before (now (store .entry)) (now (store .exit)) (now (grouping .entry)) (now (grouping .exit)) r t) ⌝ }
+    ensures pairs { λ r. ⌜ Kept (now (pairs .entry)) (now (pairs .exit)) count ⌝ }
+{
+    let here = NodeNumber(before + 1);
+    store::write(store, here, NodeRecord::Split(a, b, NodeNumber(0)));
+    let joined = map.join(a, b);
+    let under_same = visit(
+        sheet,
+        m,
+        joined,
+        count,
+        Resume::Scan,
+        before + 1,
+        pairs,
+        grouping,
+        store,
+    );
+    match under_same {
+        Visited::Met(n) => Visited::Met(n),
+        Visited::Full => Visited::Full,
+        Visited::Cannot(n) => {
+            if store::capacity_of(store) <= (n as usize) {
+                return Visited::Full;
+            }
+            store::set_next(store, here, NodeNumber(n + 1));
+            classes::set_apart(pairs, count, a, b);
+            visit(
+                sheet,
+                m,
+                map,
+                count + 1,
+                Resume::Within(c, after),
+                n,
+                pairs,
+                grouping,
+                store,
+            )
+        }
     }
 }
