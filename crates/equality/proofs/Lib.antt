@@ -17,3 +17,4 @@ pub mod Evaluator
 pub mod Agree
 pub mod Sheets
 pub mod Passing
+pub mod Checked

@@ -1,46 +1,33 @@
 -- The entry point's answer, case by case, and what it means (theorem 8).
 use Prim.Native.Nat.{ℕ, zero, suc, _+_, _-_, _≤_, _<_}
 use mathlib.Core.Bool.{false≢true}
-use mathlib.Core.List.{List, [], _∷_}
+use mathlib.Core.List.{List, []}
 use mathlib.Core.Path.{_≡_, refl, sym, ap, _∙_}
 use native.Mathlib.Omega.{arith}
-use borrow.Author.Tests.{lt-ltb, le-ltb}
 use lib.ListN.{length, getD}
 use Rattle.sheet.specs.declared.Verdict.{Verdict}
 use Rattle.sheet.specs.declared.Verdict.the-variants.{Passes, Refuses}
-use Rattle.sheet.specs.Format.{lotCount}
-use Rattle.sheet.specs.Checks.{Accepted, orElse, firstRefusal, sheetVerdict}
 use Rattle.sheet.specs.Conditions.{conditionAt, conditions}
 use Rattle.sheet.specs.Answers.{refused, answered, answerOf}
-use Rattle.sheet.proofs.Further.{further}
 use Rattle.sheet.proofs.Conditions.{conditions-length, conditions-at}
 use Rattle.equality.specs.Meaning.{meetsCondition}
-use Rattle.equality.specs.Evaluator.{check8, groupingVerdict, numberIn, lowestUnmet, evaluateAnswer}
+use Rattle.equality.specs.Evaluator.{groupingVerdict, numberIn, lowestUnmet, evaluateAnswer}
 use Rattle.equality.proofs.Meaning.{condition-decides}
 use Rattle.equality.proofs.Evaluator.{evaluator-zero, LowestUnmet, lowest-unmet}
 use Rattle.evaluator.specs.Answers.{evaluationAnswer, unmetOr, Evaluated}
 
 module _ (s grouping : List ℕ) where
-  answer-by : (v : Verdict) → sheetVerdict s ≡ v → evaluateAnswer s grouping ≡ answerOf (orElse v (firstRefusal (check8 s grouping ∷ []))) (answered (lowestUnmet (numberIn grouping) 1 (conditions s)) 0 0)
-  unfolding evaluateAnswer groupingVerdict
-  answer-by v e =
-      ap (λ (w : Verdict). answerOf w (answered (lowestUnmet (numberIn grouping) 1 (conditions s)) 0 0))
-      (further s (check8 s grouping ∷ []) ∙ ap (λ (w : Verdict). orElse w (firstRefusal (check8 s grouping ∷ []))) e)
+  answer-by : (v : Verdict) → groupingVerdict s grouping ≡ v → evaluateAnswer s grouping ≡ answerOf v (answered (lowestUnmet (numberIn grouping) 1 (conditions s)) 0 0)
+  unfolding evaluateAnswer
+  answer-by v e = ap (λ (w : Verdict). answerOf w (answered (lowestUnmet (numberIn grouping) 1 (conditions s)) 0 0)) e
 
-  -- A sheet that is refused,
-  pub sheet-refused : (check place : ℕ) → sheetVerdict s ≡ Refuses check place → refused check place ≡ evaluateAnswer s grouping
-  sheet-refused check place e = sym (answer-by (Refuses check place) e)
+  -- One of the checks refuses,
+  pub refused-by : (check place : ℕ) → groupingVerdict s grouping ≡ Refuses check place → refused check place ≡ evaluateAnswer s grouping
+  refused-by check place e = sym (answer-by (Refuses check place) e)
 
-  -- a grouping that is too short,
-  pub grouping-short : Accepted s → length grouping < lotCount s → refused 8 (lotCount s) ≡ evaluateAnswer s grouping
-  unfolding firstRefusal check8
-  grouping-short ok h = sym (answer-by Passes ok ∙ rw (lt-ltb (length grouping) (lotCount s) h))
-
-  -- and the lowest unmet condition.
-  pub evaluated : Accepted s → lotCount s ≤ length grouping → evaluationAnswer (unmetOr (lowestUnmet (numberIn grouping) 1 (conditions s))) ≡ evaluateAnswer s grouping
-  unfolding firstRefusal check8
-  evaluated ok h =
-      case (lowestUnmet (numberIn grouping) 1 (conditions s)) ∙ sym (answer-by Passes ok ∙ rw (le-ltb (length grouping) (lotCount s) h))
+  -- or the answer is the lowest unmet condition.
+  pub evaluated : groupingVerdict s grouping ≡ Passes → evaluationAnswer (unmetOr (lowestUnmet (numberIn grouping) 1 (conditions s))) ≡ evaluateAnswer s grouping
+  evaluated e = case (lowestUnmet (numberIn grouping) 1 (conditions s)) ∙ sym (answer-by Passes e)
     where
       case : (c : ℕ) → evaluationAnswer (unmetOr c) ≡ answered c 0 0
       case zero = refl

@@ -2,3 +2,6 @@ pub mod Exploring
 pub mod Standing
 pub mod Splitting
 pub mod Room
+pub mod Promised
+pub mod Ending
+pub mod Entry

@@ -6,18 +6,21 @@ use mathlib.Core.Path.{_≡_, refl, ap, ap₂, _∙_}
 use native.Mathlib.Omega.{arith}
 use lib.Dec.{eqb}
 use lib.ListN.{length, getD, length-set}
-use Rattle.sheet.specs.Format.{mostLots}
+use Rattle.sheet.specs.Format.{mostLots, mostRecords}
 use Rattle.sheet.specs.Checks.{Accepted}
 use Rattle.sheet.specs.Conditions.{Term, same, apart, conditions}
-use Rattle.equality.specs.Node.{Decisions, merged, classOf, marked, split, node}
+use Rattle.sheet.proofs.Accepted.{sound}
+use Rattle.sheet.proofs.Conditions.{terms-length}
+use Rattle.equality.specs.Node.{Decisions, classes, merged, classOf, marked, split, node}
 use Rattle.equality.proofs.Small.{conditions-small}
 use Rattle.equality.proofs.Least.{least}
 use Rattle.equality.proofs.Steps.{closed}
 use Rattle.equality.proofs.Rule.{split-at}
-use Rattle.equality.proofs.Opens.{opens, allOpens, pair-small, same-fewer, apart-fewer}
+use Rattle.equality.proofs.Bounds.{all-same-terms}
+use Rattle.equality.proofs.Opens.{opens, allOpens, opens-all-same, pair-small, same-fewer, apart-fewer}
 use Rattle.classes.specs.declared.Classes.{Classes}
 use Rattle.classes.specs.Pairs.{setApart, withPair, PairsWithin}
-use Rattle.classes.proofs.Path.{pair-leaves, join-represents, apart-represents, below-represents, represented-within, smallest-says, marked-says}
+use Rattle.classes.proofs.Path.{pair-leaves, new-represents, join-represents, apart-represents, below-represents, represented-within, smallest-says, marked-says}
 use Rattle.node.specs.declared.Resume.{Resume}
 use Rattle.node.specs.declared.Resume.the-variants.{Scan, Within}
 use Rattle.node.specs.Resume.{Resumes, StartsWithin}
@@ -64,6 +67,16 @@ module _ (shut : ℕ → ℕ → Bool) (ds : Decisions) (agrees : (a b : ℕ) �
 pub starts-within : (s : List ℕ) (from : Resume) (ds : Decisions) → Resumes s from ds → StartsWithin s from
 starts-within s Scan ds resumes = tt
 starts-within s (Within c r) ds resumes = resumes .passes .within
+
+-- No decision, and pairs with room for one of each term that a sheet can have.
+pub start-standing : (s : List ℕ) → Accepted s → (map : Classes) (pairs : List ℕ) → map .lots ≡ classes [] → length pairs ≡ 2 * mostRecords → Standing s map pairs 0 []
+start-standing s ok map pairs new len =
+    record {
+      represents = new-represents map pairs new;
+      small = tt;
+      room = omega (arith, opens-all-same [] (conditions s), all-same-terms (conditions s), terms-length s ok, sound s ok .header .records);
+      size = omega arith;
+    }
 
 module _ {s : List ℕ} {map : Classes} {pairs : List ℕ} {count : ℕ} {ds : Decisions} (st : Standing s map pairs count ds) where
   -- The map and the pairs count the open "same" terms of the path.

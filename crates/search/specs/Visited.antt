@@ -17,6 +17,9 @@ use Rattle.classes.specs.declared.Classes.{Classes}
 use Rattle.classes.specs.Pairs.{Represents}
 use Rattle.node.specs.Scan.{Scannable}
 use Rattle.store.specs.Records.{records, encodeAll, recordLength, capacity}
+use Rattle.store.specs.Outcome.{Result, groupingAfter, storeAfter}
+use Rattle.search.specs.declared.SearchAnswer.{SearchAnswer}
+use Rattle.search.specs.Promises.{answerCase}
 use Rattle.search.specs.declared.Visited.{Visited}
 use Rattle.search.specs.declared.Visited.the-variants.{Met, Cannot, Full}
 
@@ -65,3 +68,9 @@ pub record Explored (before : ℕ) (store store′ grouping grouping′ : List �
   pub ends : r ≡ endOf (capacity store) before t
   pub stored : before + nodeCount t ≤ capacity store → store′ ≡ sets store (recordLength * before) (encodeAll (records (before + 1) t))
   pub grouped : grouping′ ≡ groupingEnd r t grouping
+
+-- A search of this result, of a sheet with n lots, ends so: its case, and the two buffers.
+pub record EndsAs (n : ℕ) (result : Result) (grouping grouping′ store store′ : List ℕ) (r : SearchAnswer) : Type 0 where
+  pub answered : r ≡ answerCase result
+  pub grouped : grouping′ ≡ groupingAfter n result grouping
+  pub stored : store′ ≡ storeAfter result store

@@ -3,22 +3,31 @@ ghost use mathlib.Core.Path.{_≡_};
 ghost use mathlib.Core.List.{_∷_};
 ghost use Prim.Native.Nat.{_≤_, _<_};
 ghost use lib.ListN.{length, take, drop};
-ghost use Rattle.sheet.specs.Format.{mostLots};
+ghost use Rattle.sheet.specs.declared.Verdict.the-variants.{Passes};
+ghost use Rattle.sheet.specs.Format.{mostLots, lotCount};
 ghost use Rattle.sheet.specs.Conditions.{apart, conditions};
 ghost use Rattle.equality.specs.Node.{Decisions, split, node};
-ghost use Rattle.equality.specs.Search.{Tree};
+ghost use Rattle.equality.specs.Search.{Tree, searchTree};
 ghost use Rattle.equality.proofs.Visits.{Visits};
+ghost use Rattle.node.specs.Scan.{Scannable};
 ghost use Rattle.node.specs.Resume.{Resumes, ResumesWithin};
 ghost use Rattle.store.specs.Records.{capacity};
-ghost use Rattle.search.specs.Visited.{Searchable, Standing, EntriesWithin, Kept, Explored};
+ghost use Rattle.store.specs.Outcome.{resultOf, searchOutcome};
+ghost use Rattle.search.specs.Answers.{searchAnswer};
+ghost use Rattle.search.specs.Promises.{searchCase, RefusedExactly, FullExactly, FullPlace, MetExactly, MetGrouping, CannotExactly, CannotRefutes, CountBounded};
+ghost use Rattle.search.specs.Visited.{Searchable, Standing, EntriesWithin, Kept, Explored, EndsAs};
 use classes::Classes;
 use node::Node;
 use node::Resume;
 use sheet::Condition;
 use sheet::Lot;
+use sheet::Reading;
 use sheet::Record;
 use store::NodeNumber;
 use store::NodeRecord;
+
+// The bytes of the pairs that a path can set apart: two for each term that a sheet can have.
+const PAIRS_LENGTH: usize = 2048;
 
 // How a visit ended: met, or nothing met under the node, with the records written so far; or the store is full.
 pub enum Visited {
@@ -158,6 +167,94 @@ fn branches(
                 grouping,
                 store,
             )
+        }
+    }
+}
+
+// The search of an accepted sheet, from no decisions and no records on.
+fn start(sheet: &[u8], m: u16, grouping: &mut [u8], store: &mut [u8]) -> Visited
+    requires { ⌜ Searchable (now sheet) m (now grouping) ⌝ }
+    ensures { λ r. ⌜ Explored 0 (now (store .entry)) (now (store .exit)) (now (grouping .entry)) (now (grouping .exit)) r (searchTree (conditions (now (sheet .entry)))) ⌝ }
+{
+    let mut pairs = [0u8; PAIRS_LENGTH];
+    let map = Classes::new();
+    visit(
+        sheet,
+        m,
+        map,
+        0,
+        Resume::Scan,
+        0,
+        &mut pairs,
+        grouping,
+        store,
+    )
+}
+
+// The search of an accepted sheet with n lots and m conditions, in a grouping of at least n bytes and any store. Where the store is full, its whole records are
+// zeroed. The visits have only the bytes that they may write.
+fn search_accepted(
+    sheet: &[u8],
+    n: u16,
+    m: u16,
+    grouping: &mut [u8],
+    store: &mut [u8],
+) -> SearchAnswer
+    requires { ⌜ Scannable (now sheet) m × (n ≡ lotCount (now sheet)) × (n ≤ length (now grouping)) ⌝ }
+    ensures { λ r. ⌜ EndsAs n (resultOf Passes (capacity (now (store .entry))) (searchTree (conditions (now (sheet .entry)))))
+        (now (grouping .entry)) (now (grouping .exit)) (now (store .entry)) (now (store .exit)) r ⌝ }
+{
+    let capacity = store::capacity_of(store);
+    let lots = n as usize;
+    let visited = start(
+        sheet,
+        m,
+        &mut grouping[..lots],
+        &mut store[..store::RECORD_LENGTH * capacity],
+    );
+    match visited {
+        Visited::Met(count) => SearchAnswer::Met { count },
+        Visited::Cannot(count) => SearchAnswer::Cannot { count },
+        Visited::Full => {
+            store::clear(store, capacity);
+            SearchAnswer::Full {
+                capacity: capacity as u32,
+            }
+        }
+    }
+}
+
+// The search, for any bytes and any buffers. The answer, every byte of the grouping and every byte of the store follow from the three (`case`, `answer`,
+// `grouping`, `store`); what they say of the sheet is promised beside them.
+pub fn search(sheet: &[u8], grouping: &mut [u8], store: &mut [u8]) -> SearchAnswer
+    ensures case { λ r. ⌜ r ≡ searchCase (now (sheet .entry)) (now (grouping .entry)) (now (store .entry)) ⌝ }
+    ensures answer { λ r. ⌜ searchAnswer r ≡ searchOutcome (now (sheet .entry)) (now (grouping .entry)) (now (store .entry)) .answer ⌝ }
+    ensures grouping { λ r. ⌜ now (grouping .exit) ≡ searchOutcome (now (sheet .entry)) (now (grouping .entry)) (now (store .entry)) .grouping ⌝ }
+    ensures store { λ r. ⌜ now (store .exit) ≡ searchOutcome (now (sheet .entry)) (now (grouping .entry)) (now (store .entry)) .store ⌝ }
+    ensures refused { λ r. ⌜ RefusedExactly r (now (sheet .entry)) (now (grouping .entry)) ⌝ }
+    ensures full { λ r. ⌜ FullExactly r (now (sheet .entry)) (now (grouping .entry)) (now (store .entry)) ⌝ }
+    ensures capacity { λ r. ⌜ FullPlace r (now (store .entry)) ⌝ }
+    ensures met { λ r. ⌜ MetExactly r (now (sheet .entry)) ⌝ }
+    ensures meets { λ r. ⌜ MetGrouping r (now (sheet .entry)) (now (grouping .exit)) ⌝ }
+    ensures cannot { λ r. ⌜ CannotExactly r (now (sheet .entry)) ⌝ }
+    ensures refutes { λ r. ⌜ CannotRefutes r (now (sheet .entry)) (now (store .exit)) ⌝ }
+    ensures count { λ r. ⌜ CountBounded r (now (sheet .entry)) ⌝ }
+{
+    let reading = sheet::read(sheet);
+    match reading {
+        Reading::Refused { check, place } => SearchAnswer::Refused { check, place },
+        Reading::Accepted {
+            lots,
+            conditions,
+            terms: _,
+        } => {
+            if grouping.len() < (lots as usize) {
+                return SearchAnswer::Refused {
+                    check: 8,
+                    place: lots as u32,
+                };
+            }
+            search_accepted(sheet, lots, conditions, grouping, store)
         }
     }
 }

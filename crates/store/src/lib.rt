@@ -11,7 +11,7 @@ use sheet::Condition;
 use sheet::Lot;
 
 // The bytes of a node record.
-const RECORD_LENGTH: usize = 8;
+pub const RECORD_LENGTH: usize = 8;
 
 // The most node records that a store has.
 const MOST_NODES: usize = 65535;

@@ -4,8 +4,9 @@ use mathlib.Core.Path.{sym, ap, _∙_}
 use native.Mathlib.Omega.{arith}
 use Rattle.sheet.specs.Answers.{readingAnswer, refused}
 use Rattle.sheet.proofs.Readings.{ReadAs, read-accepts, read-refuses}
+use Rattle.equality.proofs.Checked.{sheet-refused, grouping-short, all-pass}
 use Rattle.evaluator.specs.Answers.{evaluationAnswer}
-use Rattle.evaluator.proofs.Entry.{sheet-refused, grouping-short, evaluated, evaluated-means}
+use Rattle.evaluator.proofs.Entry.{refused-by, evaluated, evaluated-means}
 use Rattle.evaluator.proofs.evaluate.Statement.{statement}
 use Rattle.evaluator.proofs.evaluate.Tie as tie
 
@@ -34,7 +35,8 @@ returns c =
     let a = accepted (c .before .before) in
     let start = c .before .before .before .before .before .before .before in (
       ap (refused 8) (a .lots)
-          ∙ grouping-short (start .args .sheet .now) (start .args .grouping .now) (a .accepted) (omega (arith, a .lots, c .if1 .taken)),
+          ∙ refused-by (start .args .sheet .now) (start .args .grouping .now) _ _
+          (grouping-short (start .args .sheet .now) (start .args .grouping .now) (a .accepted) (omega (arith, a .lots, c .if1 .taken))),
       tt,
     )
 
@@ -46,8 +48,9 @@ first-unmet-requires c κs =
 returns-2 : tie.Need-returns-2
 returns-2 c =
     let start = c .before .before .before .before .before .before in (
-      sheet-refused (start .args .sheet .now) (start .args .grouping .now) _ _
-          (read-refuses (start .args .sheet .now) _ _ (ap readingAnswer (sym (c .before .reading .given .1)) ∙ c .before .before .before .read .ensures)),
+      refused-by (start .args .sheet .now) (start .args .grouping .now) _ _
+          (sheet-refused (start .args .sheet .now) (start .args .grouping .now) _ _
+          (read-refuses (start .args .sheet .now) _ _ (ap readingAnswer (sym (c .before .reading .given .1)) ∙ c .before .before .before .read .ensures))),
       tt,
     )
 
@@ -57,7 +60,7 @@ returns-3 c =
     let start = c .before .before .before .before .before .before .before .before in
     let s = start .args .sheet .now in
     let grouping = start .args .grouping .now in (
-      ap evaluationAnswer (c .first-unmet .ensures) ∙ evaluated s grouping (a .accepted) (omega (arith, a .lots, c .before .if1 .left)),
+      ap evaluationAnswer (c .first-unmet .ensures) ∙ evaluated s grouping (all-pass s grouping (a .accepted) (omega (arith, a .lots, c .before .if1 .left))),
       rw (c .first-unmet .ensures) (evaluated-means s grouping),
     )
 
