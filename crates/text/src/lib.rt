@@ -1,1 +1,2 @@
-// The text of the printing program. Definitions only, so far (specs/).
+// The text of the printing program, written into a lent buffer.
+mod put; // put.rt: bytes, words and numbers
