@@ -1,13 +1,13 @@
 -- Writing a text piece by piece: what is left of it, and the room for that.
 use Prim.Native.Nat.{ℕ, _+_, _≤_}
-use mathlib.Core.List.{List, [], _∷_, _++_, append-nil}
+use mathlib.Core.List.{List, [], _∷_, _++_, append-nil, append-assoc}
 use mathlib.Core.Path.{_≡_, refl, ap, ap₂, sym, _∙_}
-use native.Mathlib.Nat.{add-zero}
+use native.Mathlib.Nat.{add-zero, zero-add}
 use native.Mathlib.Omega.{arith}
 use lib.ListN.{length, set, length-append}
-use lib.Seq.{sets, length-sets}
+use lib.Seq.{sets, length-sets, sets-eq}
 use Rattle.store.proofs.Writes.{sets-sets}
-use Rattle.text.specs.Code.{Wrote}
+use Rattle.text.specs.Code.{Wrote, Printed}
 
 -- Nothing written.
 pub nothing : (l : List ℕ) (at : ℕ) → Wrote l l at at []
@@ -25,6 +25,11 @@ pub record Writing (before : List ℕ) (at : ℕ) (all after : List ℕ) (next :
 
 pub start : (before : List ℕ) (at : ℕ) (all : List ℕ) → Writing before at all before at all
 start before at all = record { stored = refl; ends = refl; kept = refl }
+
+-- The start of a text of three pieces.
+pub start-three : (before first second third : List ℕ)
+    → Writing before 0 (first ++ second ++ third) before 0 (first ++ (second ++ third))
+start-three before first second third = rw (append-assoc first second third) (start before 0 (first ++ (second ++ third)))
 
 module _ {before : List ℕ} {at : ℕ} {all after : List ℕ} {next : ℕ} where
   -- What is left has room, where the whole has, and so has its first piece;
@@ -52,3 +57,9 @@ module _ {before : List ℕ} {at : ℕ} {all after : List ℕ} {next : ℕ} wher
 pub last : {before : List ℕ} {at : ℕ} {all after : List ℕ} {next : ℕ} {after′ : List ℕ} {next′ : ℕ} {piece : List ℕ}
     → Wrote after after′ next next′ piece → Writing before at all after next piece → Wrote before after′ at next′ all
 last {piece = piece} p w = whole (then [] p (rw (append-nil piece) w))
+
+-- A text that is written from the front on, and has room, stands there with the rest untouched.
+pub printed : {before after : List ℕ} {count : ℕ} {text : List ℕ} → Wrote before after 0 count text → length text ≤ length before
+    → Printed before after count text
+printed {before} {text = text} w h =
+    record { bytes = w .stored ∙ rw (zero-add (length text)) at (sets-eq text before 0 (omega arith)); counted = omega (arith, w .ended) }
