@@ -1,10 +1,10 @@
 -- The texts that the code writes are those of the definitions, and the program's search is the search of its buffers.
 use Prim.Native.Nat.{ℕ, _≤_}
 use mathlib.Core.List.{List, [], _∷_}
-use mathlib.Core.Path.{_≡_, refl, ap, _∙_}
+use mathlib.Core.Path.{_≡_, refl, ap, _∙_, sym}
 use native.Mathlib.Omega.{arith}
 use borrow.Author.Tests.{le-ltb}
-use lib.ListN.{length, drop}
+use lib.ListN.{length, take, drop}
 use lib.Seq.{take-at}
 use Rattle.sheet.specs.declared.Verdict.{Verdict}
 use Rattle.sheet.specs.declared.Verdict.the-variants.{Passes, Refuses}
@@ -20,7 +20,7 @@ use Rattle.store.specs.Outcome.{written, resultOf, metResult, cannotResult}
 use Rattle.store.proofs.Codec.{records-count, records-first}
 use Rattle.store.proofs.Fitting.{search-fits}
 use Rattle.store.proofs.Grouping.{grouping-length}
-use Rattle.text.specs.Program.{programCapacity, resultText}
+use Rattle.text.specs.Program.{mostInput, printed, programCapacity, resultText}
 use Rattle.text.specs.Code.{firstRecords, metText, cannotText}
 
 module _ (s : List ℕ) (ok : Accepted s) (few : nodeCount (searchTree (conditions s)) ≤ mostNodes) (store : List ℕ) where
@@ -63,3 +63,11 @@ program-result s grouping store tree room size =
     passed : (v : Verdict) → sheetVerdict s ≡ v → orElse (sheetVerdict s) (firstRefusal (check8 s grouping ∷ [])) ≡ sheetVerdict s
     passed (Refuses check place) e = rw e
     passed Passes e = rw (e, no-refusal s grouping e room)
+
+pub printed-says : (input grouping store : List ℕ) → mostLots ≤ length grouping → capacity store ≡ programCapacity
+    → printed input
+    ≡ resultText (take mostInput input)
+    (resultOf (groupingVerdict (take mostInput input) grouping) (capacity store) (searchTree (conditions (take mostInput input))))
+unfolding printed
+printed-says input grouping store room size =
+    let s = take mostInput input in ap (resultText s) (sym (program-result s grouping store (searchTree (conditions s)) room size))

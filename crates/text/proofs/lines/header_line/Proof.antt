@@ -1,5 +1,5 @@
 -- `lines::header_line` meets its contract: the words and the numbers in turn, and the line's end.
-use Prim.Native.Nat.{ℕ, _-_}
+use Prim.Native.Nat.{ℕ}
 use mathlib.Core.List.{List, [], _∷_}
 use mathlib.Core.Path.{_≡_, ap, _∙_}
 use native.Mathlib.Omega.{arith}

@@ -1,6 +1,6 @@
 -- `lines::met_line` meets its contract. The loop's invariant: what is left to write of the line after its word is the fields from byte i on, and
 -- its end; i is at most the count of lots. The measure is the fields that are left.
-use Prim.Native.Nat.{ℕ, suc, _+_, _-_, _≤_}
+use Prim.Native.Nat.{ℕ, suc, _-_, _≤_}
 use mathlib.Core.List.{[], _∷_, _++_, map}
 use mathlib.Core.Path.{_≡_, ap, _∙_}
 use native.Mathlib.Numerals.{add-one}

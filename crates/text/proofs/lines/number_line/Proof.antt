@@ -1,7 +1,8 @@
 -- `lines::number_line` meets its contract: the word, the number and the line's end, one after the other.
-use Prim.Native.Nat.{_-_}
-use mathlib.Core.List.{[], _∷_}
+use Prim.Native.Nat.{ℕ}
+use mathlib.Core.List.{List, [], _∷_}
 use native.Mathlib.Omega.{arith}
+use lib.ListN.{drop}
 use Rattle.text.specs.Lines.{decimal, line}
 use Rattle.text.proofs.Fields.{after, start-line}
 use Rattle.text.proofs.Writing.{Writing, room-left, room, then, last}
@@ -9,20 +10,22 @@ use borrow.Author.Needs.{needs}
 use Rattle.text.proofs.lines.number_line.Statement.{statement}
 use Rattle.text.proofs.lines.number_line.Tie as tie
 
--- What is left to write after the word,
-named : (c : tie.After-put-word)
-    → Writing (c .before .before .before .before .args .out .now) (c .before .before .before .before .args .at)
-    (line (c .before .before .before .before .args .word .now) (decimal (c .before .before .before .before .args .x) ∷ []))
-    (c .put-word .last .0) (c .put-word .result) (after (decimal (c .before .before .before .before .args .x) ∷ []))
+-- What is left to write, the word and `k` numbers being written.
+abbrev Left : tie.Start → List ℕ → ℕ → ℕ → Type 0
+Left begin out next k =
+    Writing (begin .args .out .now) (begin .args .at) (line (begin .args .word .now) (decimal (begin .args .x) ∷ []))
+    out next (after (drop k (decimal (begin .args .x) ∷ [])))
+
+abbrev begin : tie.After-put-word → tie.Start
+begin c = c .before .before .before .before
+
+-- After the word, and after the number.
+named : (c : tie.After-put-word) → Left (begin c) (c .put-word .last .0) (c .put-word .result) 0
 named c =
-    let a = c .before .before .before .before .args in
+    let a = begin c .args in
     then (after (decimal (a .x) ∷ [])) (c .put-word .ensures) (start-line (a .out .now) (a .at) (a .word .now) (decimal (a .x) ∷ []))
 
--- and after the number.
-numbered : (c : tie.After-put-field)
-    → Writing (c .before .before .before .before .before .before .before .before .args .out .now) (c .before .before .before .before .before .before .before .before .args .at)
-    (line (c .before .before .before .before .before .before .before .before .args .word .now) (decimal (c .before .before .before .before .before .before .before .before .args .x) ∷ []))
-    (c .put-field .last .0) (c .put-field .result) (after [])
+numbered : (c : tie.After-put-field) → Left (begin (c .before .before .before .before)) (c .put-field .last .0) (c .put-field .result) 1
 numbered c = then (after []) (c .put-field .ensures) (named (c .before .before .before .before))
 
 put-word-requires : tie.Need-put-word-requires

@@ -1,5 +1,4 @@
 -- `lines::record_line` meets its contract: each arm writes the line that the definition gives that record, which for the last two is none.
-use Prim.Native.Nat.{_-_}
 use Rattle.text.specs.Lines.{line}
 use Rattle.text.specs.Program.{recordLine}
 use Rattle.text.proofs.Writing.{nothing, last}

@@ -1,5 +1,4 @@
 -- `put::put_field` meets its contract: the space, and then the number.
-use Prim.Native.Nat.{_-_}
 use Rattle.text.specs.Lines.{decimal}
 use Rattle.text.proofs.Writing.{start, then, last}
 use borrow.Author.Needs.{needs}
