@@ -10,16 +10,16 @@ use lib.Dec.{eqb}
 use lib.ListN.{length, length-append}
 use lib.Seq.{getD-append-seam}
 use Rattle.sheet.specs.declared.Verdict.the-variants.{Passes}
-use Rattle.sheet.specs.Format.{mostConditions, lotCount, conditionCount}
+use Rattle.sheet.specs.Format.{lotCount, conditionCount}
 use Rattle.sheet.specs.Checks.{Accepted, orElse, refusesIf, firstRefusal, lotInRange}
 use Rattle.sheet.proofs.Verdicts.{passes-firstRefusal}
 use Rattle.sheet.proofs.Further.{further-accepted}
 use Rattle.sheet.specs.Conditions.{Term, same, apart, conditions}
 use Rattle.sheet.proofs.Ranges.{All}
-use Rattle.sheet.proofs.Accepted.{InLots, sound}
+use Rattle.sheet.proofs.Accepted.{InLots}
 use Rattle.sheet.proofs.Conditions.{TermIn, conditions-length, conditions-in}
 use Rattle.equality.specs.Node.{Decisions, value, trueOrOpenApart}
-use Rattle.equality.specs.Search.{Tree, metLeaf, groundLeaf, oneBranch, twoBranches, isMet, nodeCount, depth, searchTree}
+use Rattle.equality.specs.Search.{Tree, isMet, nodeCount, depth, searchTree}
 use Rattle.equality.proofs.Some.{none-too}
 use Rattle.equality.proofs.Small.{Small, all-map, conditions-small}
 use Rattle.equality.proofs.Rule.{TakenAt, GroundAt, SplitAt, ground-at, ground-false, split-at}
@@ -27,19 +27,9 @@ use Rattle.equality.proofs.Opens.{all-at, pair-small}
 use Rattle.equality.proofs.Visits.{Visits, visits-met, visits-ground, visits-one, visits-two, search-visits}
 use Rattle.equality.proofs.Sheets.{sheet-depth}
 use Rattle.store.specs.Records.{NodeRecord, records, encodeAll, recordLength, mostNodes}
-use Rattle.store.proofs.Codec.{Fits, bytes-count, records-of}
+use Rattle.store.proofs.Codec.{bytes-count, records-of}
+use Rattle.store.proofs.Fitting.{node-count, search-fits}
 use Rattle.refutation.specs.Refutation.{mostSplits, Split, decisionsOf, notFalse, groundFails, nearest, turned, afterGround, named, conditionInRange, walkFrom, check10, walkVerdict, listVerdict, Refutes}
-
-fit-append : (xs ys : List NodeRecord) → All Fits xs → All Fits ys → All Fits (xs ++ ys)
-fit-append [] ys hx hy = hy
-fit-append (x ∷ xs) ys hx hy = (hx .0, fit-append xs ys (hx .1) hy)
-
-node-count : (t : Tree) → 1 ≤ nodeCount t
-unfolding nodeCount
-node-count (metLeaf ds) = omega arith
-node-count (groundLeaf c) = omega arith
-node-count (oneBranch a b t) = omega arith
-node-count (twoBranches a b t u) = omega arith
 
 in-lots : (n lot : ℕ) → InLots n lot → lotInRange n lot ≡ true
 in-lots n lot h = simp (le-leb 1 lot (h .low), le-leb lot n (h .high))
@@ -103,28 +93,6 @@ module _ (s : List ℕ) (ok : Accepted s) where
       ∙ apart-branch
       ∙ ap (λ (n : ℕ). afterGround (walkFrom s rest) rest n (nearest above)) count)
 
-  -- ---- the bytes
-
-  -- The records fit their bytes where their numbers do.
-  own-fit : {ds : Decisions} {t : Tree} → Visits (conditions s) ds t → All Small ds → (at : ℕ) → at + nodeCount t ≤ suc mostNodes → All Fits (records at t)
-  unfolding records nodeCount
-  own-fit (visits-met e) small at h = (tt, tt)
-  own-fit {ds} (visits-ground {c = c} e) small at h =
-      let taken = ground-at ds (conditions s) c e .taken in
-      (omega (arith, numbered taken), tt)
-    where
-      numbered : {ts : List Term} → TakenAt ds 1 (conditions s) c ts → c ≤ mostConditions
-      numbered {ts} taken =
-          let count : length (conditions s) ≡ length (taken .front) + suc (length (taken .back)) =
-          ap length (taken .place) ∙ length-append (taken .front) (ts ∷ taken .back) in
-          omega (arith, taken .number, count, conditions-length s, sound s ok .header .conditions)
-  own-fit {ds} (visits-one {a = a} {b = b} e v q) small at h =
-      let pair = pair-small ds small (conditions s) (conditions-small s ok) a b (split-at ds (conditions s) a b e) in
-      (omega arith, own-fit v (pair, small) (at + 1) (omega arith))
-  own-fit {ds} (visits-two {a = a} {b = b} {t = t} {u = u} e v q w) small at h =
-      let pair = pair-small ds small (conditions s) (conditions-small s ok) a b (split-at ds (conditions s) a b e) in
-      (omega (arith, node-count u), fit-append (records (at + 1) t) (records (at + 1 + nodeCount t) u) (own-fit v (pair, small) (at + 1) (omega arith)) (own-fit w (pair, small) (at + 1 + nodeCount t) (omega arith)))
-
   -- ---- the search
 
   -- Where the search has no met node and at most 65,535 nodes, its bytes pass.
@@ -150,7 +118,7 @@ module _ (s : List ℕ) (ok : Accepted s) where
     unfolding walkVerdict bytes tree nearest
     walk-passes =
         let visits = search-visits (conditions s) (conditions-small s ok) in
-        let decoded = records-of (records 1 (searchTree (conditions s))) (own-fit visits tt 1 (omega arith)) in
+        let decoded = records-of (records 1 (searchTree (conditions s))) (search-fits s ok few) in
         let deep : depth (searchTree (conditions s)) ≤ mostSplits = sheet-depth s ok in
         ap (λ (list : List NodeRecord). walkFrom s list 1 []) (decoded ∙ sym (append-nil (records 1 (searchTree (conditions s)))))
         ∙ own-walk visits m tt [] refl (omega arith) 1 []

@@ -14,6 +14,7 @@ use Rattle.equality.specs.Node.{Decisions}
 use Rattle.equality.specs.Search.{Tree, metLeaf, groundLeaf, oneBranch, twoBranches, isMet, nodeCount, metDecisions, groupingBytes}
 use Rattle.store.specs.Records.{NodeRecord, splitRecord, groundRecord, metRecord, records, recordLength, encode, encodeAll, mostNodes, capacity}
 use Rattle.store.proofs.Codec.{encode-length, encodeAll-append, bytes-count}
+use Rattle.store.proofs.Fitting.{node-count}
 use Rattle.store.proofs.Writes.{sets-sets, sets-before, next-set}
 use Rattle.search.specs.declared.Visited.{Visited}
 use Rattle.search.specs.declared.Visited.the-variants.{Met, Cannot, Full}
@@ -41,14 +42,6 @@ fits-end S before t m h e = simp (le-leb _ _ h, e)
 
 pub full-end : (S before : ℕ) (t : Tree) → S < before + nodeCount t → Full ≡ endOf S before t
 full-end S before t h = simp (lt-leb _ _ h)
-
--- Every tree has a node.
-pub node-first : (t : Tree) → 1 ≤ nodeCount t
-unfolding nodeCount
-node-first (metLeaf ds) = omega arith
-node-first (groundLeaf c) = omega arith
-node-first (oneBranch a b t) = omega arith
-node-first (twoBranches a b t u) = omega arith
 
 -- ---- no room
 
@@ -182,7 +175,7 @@ module _ (before : ℕ) (store store₁ store₂ grouping grouping₂ : List ℕ
     apart-full h =
         rw (turned .kept)
         (none-explored before store store₂ grouping (twoBranches a b t u)
-        (omega (arith, turned .count, node-first u, capacity₂)))
+        (omega (arith, turned .count, node-count u, capacity₂)))
       where
         capacity₂ : capacity store₂ ≡ capacity store
         capacity₂ =

@@ -1,6 +1,6 @@
 -- Node records and their bytes are one codec: what is encoded is decoded again, record by record.
 use Prim.Native.Nat.{ℕ, zero, suc, _+_, _*_, _-_, _/_, _%_, _<_}
-use mathlib.Core.List.{List, [], _∷_, _++_, map, append-assoc}
+use mathlib.Core.List.{List, [], _∷_, _++_, map, append-nil, append-assoc}
 use mathlib.Core.Path.{_≡_, refl, sym, ap, _∙_}
 use native.Mathlib.Nat.{add-assoc}
 use native.Mathlib.Omega.{arith}
@@ -80,31 +80,40 @@ module _ (p q : List ℕ) where
   decode-shift i =
       rw (getD-append-add p q i 0, byte-shift i 1, number-shift i 2, number-shift i 4, number-shift i 6)
 
-pub decode-at : (rs : List NodeRecord) → All Fits rs → (i : ℕ) → i < length rs → decode (encodeAll rs) (recordLength * i) ≡ getD rs i noRecord
+-- The record at a place, where the records' bytes come first.
+pub decode-at : (rs : List NodeRecord) → All Fits rs → (rest : List ℕ) (i : ℕ) → i < length rs
+    → decode (encodeAll rs ++ rest) (recordLength * i) ≡ getD rs i noRecord
 unfolding encodeAll
-decode-at [] fits i h = absurd (omega arith)
-decode-at (r ∷ rs) fits zero h = decode-encode r (encodeAll rs) (fits .0)
-decode-at (r ∷ rs) fits (suc i) h =
-    ap (decode (encode r ++ encodeAll rs)) place
-    ∙ decode-shift (encode r) (encodeAll rs) (recordLength * i)
-    ∙ decode-at rs (fits .1) i (omega arith)
+decode-at [] fits rest i h = absurd (omega arith)
+decode-at (r ∷ rs) fits rest zero h = rw (append-assoc (encode r) (encodeAll rs) rest) (decode-encode r (encodeAll rs ++ rest) (fits .0))
+decode-at (r ∷ rs) fits rest (suc i) h =
+    rw (append-assoc (encode r) (encodeAll rs) rest)
+    (ap (decode (encode r ++ (encodeAll rs ++ rest))) place
+    ∙ decode-shift (encode r) (encodeAll rs ++ rest) (recordLength * i)
+    ∙ decode-at rs (fits .1) rest i (omega arith))
   where
     place : recordLength * suc i ≡ length (encode r) + recordLength * i
     place = omega (arith, encode-length r)
 
--- What is encoded is decoded again.
+-- What is encoded is decoded again, whatever follows it,
+pub records-first : (rs : List NodeRecord) → All Fits rs → (rest : List ℕ) → map (recordAt (encodeAll rs ++ rest)) (countUp (length rs) 1) ≡ rs
+records-first rs fits rest =
+    ext-getD noRecord (map (recordAt bytes) (countUp (length rs) 1)) rs
+    (length-along (recordAt bytes) (length rs) 1)
+    (λ i h. at i (rw (length-along (recordAt bytes) (length rs) 1) at h))
+  where
+    bytes : List ℕ
+    bytes = encodeAll rs ++ rest
+
+    at : (i : ℕ) → i < length rs → getD (map (recordAt bytes) (countUp (length rs) 1)) i noRecord ≡ getD rs i noRecord
+    at i h =
+        let place : recordLength * (1 + i - 1) ≡ recordLength * i = omega arith in
+        getD-along (recordAt bytes) (length rs) 1 i noRecord h ∙ ap (decode bytes) place ∙ decode-at rs fits rest i h
+
+-- and as a whole list.
 pub records-of : (rs : List NodeRecord) → All Fits rs → recordsOf (encodeAll rs) ≡ rs
 unfolding recordsOf
-records-of rs fits =
-    rw count
-    (ext-getD noRecord (map (recordAt (encodeAll rs)) (countUp (length rs) 1)) rs
-    (length-along (recordAt (encodeAll rs)) (length rs) 1)
-    (λ i h. at i (rw (length-along (recordAt (encodeAll rs)) (length rs) 1) at h)))
+records-of rs fits = rw count (rw (append-nil (encodeAll rs)) at (records-first rs fits []))
   where
     count : length (encodeAll rs) / recordLength ≡ length rs
     count = omega (arith, encodeAll-length rs)
-
-    at : (i : ℕ) → i < length rs → getD (map (recordAt (encodeAll rs)) (countUp (length rs) 1)) i noRecord ≡ getD rs i noRecord
-    at i h =
-        let place : recordLength * (1 + i - 1) ≡ recordLength * i = omega arith in
-        getD-along (recordAt (encodeAll rs)) (length rs) 1 i noRecord h ∙ ap (decode (encodeAll rs)) place ∙ decode-at rs fits i h

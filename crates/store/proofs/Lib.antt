@@ -1,3 +1,4 @@
 pub mod Codec
+pub mod Fitting
 pub mod Grouping
 pub mod Writes

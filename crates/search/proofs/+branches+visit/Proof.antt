@@ -1,3 +1,6 @@
+-- `search::visit` and `search::branches`, which call each other: whatever path the map and the pairs represent, the visit writes the records of the tree that
+-- the rule visits from there, as far as the store has room. The measure is the open "same" terms, counted by the map and the pairs: a split closes one in each
+-- of its branches.
 use borrow.Author.Needs.{needs}
 use Prim.Native.Nat.{ℕ, _+_, _*_, _-_, _<_}
 use mathlib.Core.List.{List, _∷_}
@@ -13,8 +16,9 @@ use Rattle.equality.proofs.Visits.{Visits, met-tree, ground-tree, split-tree}
 use Rattle.store.specs.Records.{recordLength, splitRecord, groundRecord, metRecord, encode, capacity}
 use Rattle.node.specs.declared.Node as declared
 use Rattle.node.specs.Resume.{nodeAs, Resumes, Leaves}
+use Rattle.store.proofs.Fitting.{node-count}
 use Rattle.search.specs.Visited.{Standing, Explored}
-use Rattle.search.proofs.Exploring.{none-explored, node-first, met-explored, ground-explored}
+use Rattle.search.proofs.Exploring.{none-explored, met-explored, ground-explored}
 use Rattle.search.proofs.Splitting.{split-met, split-full, split-over, split-apart}
 use Rattle.search.proofs.Room.{has-place, number-fits}
 use Rattle.search.proofs.Standing.{openCount, starts-within, pairs-within, entries-within, split-small, same-standing, same-less, pair-room, apart-standing, apart-less, kept-through}
@@ -310,7 +314,7 @@ visit-returns : (t : ℕ) → visit-lts.Need-returns (visit-claims t) (visit-at 
 visit-returns t c = let start = c .before .before .before .before .before .before .before in (
   (λ ds tree st res v.
       none-explored (start .args .before) (start .args .store .now) (start .args .store .now) (start .args .grouping .now) tree
-      (omega (arith, node-first tree, c .before .capacity-of .ensures, c .if1 .taken))),
+      (omega (arith, node-count tree, c .before .capacity-of .ensures, c .if1 .taken))),
   (λ i h. refl),
 )
 

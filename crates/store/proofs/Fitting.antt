@@ -1,0 +1,57 @@
+-- The records of a search fit their bytes.
+use Prim.Native.Nat.{ℕ, suc, _+_, _≤_}
+use mathlib.Core.List.{List, [], _∷_, _++_}
+use mathlib.Core.Path.{_≡_, ap, _∙_}
+use native.Mathlib.Omega.{arith}
+use lib.ListN.{length, length-append}
+use Rattle.sheet.specs.Format.{mostConditions}
+use Rattle.sheet.specs.Checks.{Accepted}
+use Rattle.sheet.specs.Conditions.{Term, conditions}
+use Rattle.sheet.proofs.Ranges.{All}
+use Rattle.sheet.proofs.Accepted.{sound}
+use Rattle.sheet.proofs.Conditions.{conditions-length}
+use Rattle.equality.specs.Node.{Decisions}
+use Rattle.equality.specs.Search.{Tree, metLeaf, groundLeaf, oneBranch, twoBranches, nodeCount, searchTree}
+use Rattle.equality.proofs.Small.{Small, conditions-small}
+use Rattle.equality.proofs.Rule.{TakenAt, ground-at, split-at}
+use Rattle.equality.proofs.Opens.{pair-small}
+use Rattle.equality.proofs.Visits.{Visits, visits-met, visits-ground, visits-one, visits-two, search-visits}
+use Rattle.store.specs.Records.{NodeRecord, records, mostNodes}
+use Rattle.store.proofs.Codec.{Fits}
+
+fit-append : (xs ys : List NodeRecord) → All Fits xs → All Fits ys → All Fits (xs ++ ys)
+fit-append [] ys hx hy = hy
+fit-append (x ∷ xs) ys hx hy = (hx .0, fit-append xs ys (hx .1) hy)
+
+-- A search visits a node at least.
+pub node-count : (t : Tree) → 1 ≤ nodeCount t
+unfolding nodeCount
+node-count (metLeaf ds) = omega arith
+node-count (groundLeaf c) = omega arith
+node-count (oneBranch a b t) = omega arith
+node-count (twoBranches a b t u) = omega arith
+
+module _ (s : List ℕ) (ok : Accepted s) where
+  -- The records of a tree from `at` on fit where their numbers do,
+  tree-fits : {ds : Decisions} {t : Tree} → Visits (conditions s) ds t → All Small ds → (at : ℕ) → at + nodeCount t ≤ suc mostNodes → All Fits (records at t)
+  unfolding records nodeCount
+  tree-fits (visits-met e) small at h = (tt, tt)
+  tree-fits {ds} (visits-ground {c = c} e) small at h =
+      let taken = ground-at ds (conditions s) c e .taken in
+      (omega (arith, numbered taken), tt)
+    where
+      numbered : {ts : List Term} → TakenAt ds 1 (conditions s) c ts → c ≤ mostConditions
+      numbered {ts} taken =
+          let count : length (conditions s) ≡ length (taken .front) + suc (length (taken .back)) =
+          ap length (taken .place) ∙ length-append (taken .front) (ts ∷ taken .back) in
+          omega (arith, taken .number, count, conditions-length s, sound s ok .header .conditions)
+  tree-fits {ds} (visits-one {a = a} {b = b} e v q) small at h =
+      let pair = pair-small ds small (conditions s) (conditions-small s ok) a b (split-at ds (conditions s) a b e) in
+      (omega arith, tree-fits v (pair, small) (at + 1) (omega arith))
+  tree-fits {ds} (visits-two {a = a} {b = b} {t = t} {u = u} e v q w) small at h =
+      let pair = pair-small ds small (conditions s) (conditions-small s ok) a b (split-at ds (conditions s) a b e) in
+      (omega (arith, node-count u), fit-append (records (at + 1) t) (records (at + 1 + nodeCount t) u) (tree-fits v (pair, small) (at + 1) (omega arith)) (tree-fits w (pair, small) (at + 1 + nodeCount t) (omega arith)))
+
+  -- and those of the whole search where it has at most 65,535 nodes.
+  pub search-fits : nodeCount (searchTree (conditions s)) ≤ mostNodes → All Fits (records 1 (searchTree (conditions s)))
+  search-fits few = tree-fits (search-visits (conditions s) (conditions-small s ok)) tt 1 (omega arith)

@@ -1,0 +1,73 @@
+-- The texts that the code writes are those of the definitions, and the program's search is the search of its buffers.
+use Prim.Native.Nat.{ℕ, _≤_}
+use mathlib.Core.List.{List, [], _∷_}
+use mathlib.Core.Path.{_≡_, refl, ap, _∙_, sym}
+use native.Mathlib.Omega.{arith}
+use borrow.Author.Tests.{le-ltb}
+use lib.ListN.{length, take, drop}
+use lib.Seq.{take-at}
+use Rattle.sheet.specs.declared.Verdict.{Verdict}
+use Rattle.sheet.specs.declared.Verdict.the-variants.{Passes, Refuses}
+use Rattle.sheet.specs.Format.{mostLots, lotCount}
+use Rattle.sheet.specs.Conditions.{conditions}
+use Rattle.sheet.specs.Checks.{Accepted, orElse, firstRefusal, sheetVerdict}
+use Rattle.sheet.proofs.Further.{further}
+use Rattle.sheet.proofs.Accepted.{sound}
+use Rattle.equality.specs.Search.{Tree, nodeCount, searchTree, metDecisions, groupingBytes}
+use Rattle.equality.specs.Evaluator.{check8, groupingVerdict}
+use Rattle.store.specs.Records.{records, encodeAll, mostNodes, capacity}
+use Rattle.store.specs.Outcome.{written, resultOf, metResult, cannotResult}
+use Rattle.store.proofs.Codec.{records-count, records-first}
+use Rattle.store.proofs.Fitting.{search-fits}
+use Rattle.store.proofs.Grouping.{grouping-length}
+use Rattle.text.specs.Program.{mostInput, printed, programCapacity, resultText}
+use Rattle.text.specs.Code.{firstRecords, metText, cannotText}
+
+module _ (s : List ℕ) (ok : Accepted s) (few : nodeCount (searchTree (conditions s)) ≤ mostNodes) (store : List ℕ) where
+  -- The store as the search leaves it,
+  abbrev pub storeLeft : List ℕ
+  storeLeft = written (encodeAll (records 1 (searchTree (conditions s)))) store
+
+  -- whose first records are the search's.
+  pub records-left : firstRecords storeLeft (nodeCount (searchTree (conditions s))) ≡ records 1 (searchTree (conditions s))
+  records-left =
+      let tree = searchTree (conditions s) in
+      let bytes = encodeAll (records 1 tree) in
+      rw (← records-count 1 tree) (records-first (records 1 tree) (search-fits s ok few) (drop (length bytes) store))
+
+  pub met-text-says : (grouping : List ℕ)
+      → metText s (nodeCount (searchTree (conditions s))) (written (groupingBytes (lotCount s) (metDecisions (searchTree (conditions s)))) grouping) storeLeft
+      ≡ resultText s (metResult (searchTree (conditions s)))
+  unfolding resultText
+  met-text-says grouping =
+      let bytes = groupingBytes (lotCount s) (metDecisions (searchTree (conditions s))) in
+      let front = take-at bytes (drop (length bytes) grouping) (lotCount s) (grouping-length (lotCount s) (metDecisions (searchTree (conditions s))) (sound s ok .header .lots)) in
+      rw (records-left, front)
+
+  pub cannot-text-says : cannotText s (nodeCount (searchTree (conditions s))) storeLeft ≡ resultText s (cannotResult (searchTree (conditions s)))
+  unfolding resultText
+  cannot-text-says = rw records-left
+
+no-refusal : (s grouping : List ℕ) → Accepted s → mostLots ≤ length grouping → firstRefusal (check8 s grouping ∷ []) ≡ Passes
+unfolding firstRefusal check8
+no-refusal s grouping ok room = rw (le-ltb (length grouping) (lotCount s) (omega (arith, sound s ok .header .lots)))
+
+-- A grouping for every lot refuses no sheet: with it, and a store of the program's, the search comes to what the program prints.
+pub program-result : (s grouping store : List ℕ) (tree : Tree) → mostLots ≤ length grouping → capacity store ≡ programCapacity
+    → resultOf (groupingVerdict s grouping) (capacity store) tree ≡ resultOf (sheetVerdict s) programCapacity tree
+unfolding groupingVerdict
+program-result s grouping store tree room size =
+    ap (λ (v : Verdict). resultOf v (capacity store) tree) (further s (check8 s grouping ∷ []) ∙ passed (sheetVerdict s) refl)
+    ∙ ap (λ (c : ℕ). resultOf (sheetVerdict s) c tree) size
+  where
+    passed : (v : Verdict) → sheetVerdict s ≡ v → orElse (sheetVerdict s) (firstRefusal (check8 s grouping ∷ [])) ≡ sheetVerdict s
+    passed (Refuses check place) e = rw e
+    passed Passes e = rw (e, no-refusal s grouping e room)
+
+pub printed-says : (input grouping store : List ℕ) → mostLots ≤ length grouping → capacity store ≡ programCapacity
+    → printed input
+    ≡ resultText (take mostInput input)
+    (resultOf (groupingVerdict (take mostInput input) grouping) (capacity store) (searchTree (conditions (take mostInput input))))
+unfolding printed
+printed-says input grouping store room size =
+    let s = take mostInput input in ap (resultText s) (sym (program-result s grouping store (searchTree (conditions s)) room size))

@@ -1,0 +1,41 @@
+-- For the contracts of the code; this file states nothing of document 01.
+use Prim.Native.Nat.{ℕ, _+_, _*_, _≤_}
+use mathlib.Core.List.{List, _++_, map}
+use mathlib.Core.Path.{_≡_}
+use lib.ListN.{length, take}
+use lib.Seq.{sets}
+use Rattle.sheet.specs.Format.{headerLength, lotCount}
+use Rattle.sheet.specs.Conditions.{countUp}
+use Rattle.store.specs.Records.{NodeRecord, recordAt, recordLength}
+use Rattle.store.specs.Outcome.{written}
+use Rattle.text.specs.Program.{headerLine, recordLines, metLine, cannotLine}
+
+-- Of the buffer `before`, the bytes from place `at` on were overwritten with `bytes`, and no others; `next` is the place after them.
+pub record Wrote (before after : List ℕ) (at next : ℕ) (bytes : List ℕ) : Type 0 where
+  pub stored : after ≡ sets before at bytes
+  pub ended : next ≡ at + length bytes
+
+-- The first `count` records of a store.
+abbrev pub firstRecords : List ℕ → ℕ → List NodeRecord
+firstRecords store count = map (recordAt store) (countUp count 1)
+
+-- The buffer `before` begins with `text` now, and its other bytes are untouched; `count` is the text's length.
+pub record Printed (before after : List ℕ) (count : ℕ) (text : List ℕ) : Type 0 where
+  pub bytes : after ≡ written text before
+  pub counted : count ≡ length text
+
+-- The text of a search that met the sheet, and of one that could not, from what it left in the grouping and in the store.
+abbrev pub metText : List ℕ → ℕ → List ℕ → List ℕ → List ℕ
+metText s count grouping store = headerLine s ++ recordLines (firstRecords store count) ++ metLine (take (lotCount s) grouping)
+
+abbrev pub cannotText : List ℕ → ℕ → List ℕ → List ℕ
+cannotText s count store = headerLine s ++ recordLines (firstRecords store count) ++ cannotLine count
+
+-- The sheet has a header, and the store has `count` records.
+pub record Printable (s : List ℕ) (count : ℕ) (store : List ℕ) : Type 0 where
+  pub header : headerLength ≤ length s
+  pub whole : recordLength * count ≤ length store
+
+-- Room for every text of the program (proofs/Room).
+abbrev pub textRoom : ℕ
+textRoom = 170000
