@@ -2,11 +2,12 @@
 use borrow.Author.Needs.{needs}
 use Prim.Native.Nat.{ℕ}
 use mathlib.Core.List.{List}
-use mathlib.Core.Path.{_≡_, ap, sym, _∙_}
+use mathlib.Core.Path.{_≡_, ap, sym, subst, _∙_}
 use native.Mathlib.Omega.{arith}
 use Rattle.store.specs.Outcome.{searchOutcome}
 use Rattle.search.specs.Answers.{searchAnswer}
 use Rattle.search.specs.declared.SearchAnswer.{SearchAnswer}
+use Rattle.text.specs.Code.{Printed}
 use Rattle.text.proofs.Searched.{refused-printed, printable, lots-grouped, met-printed, met-room, cannot-printed, cannot-room}
 use Rattle.text.proofs.print_search.Statement.{statement}
 use Rattle.text.proofs.print_search.Tie as tie
@@ -28,6 +29,10 @@ store c = begin c .args .store .now
 said : (c : tie.After-search) {answer : SearchAnswer} → c .search .result ≡ answer
     → searchAnswer answer ≡ searchOutcome (sheet c) (grouping c) (store c) .answer
 said c e = ap searchAnswer (sym e) ∙ c .search .ensures .1 .0
+
+-- A printed text, under another name.
+reading : {before after : List ℕ} {count : ℕ} {text text′ : List ℕ} → text ≡ text′ → Printed before after count text → Printed before after count text′
+reading {before} {after} {count} e p = subst (λ (t : List ℕ). Printed before after count t) e p
 
 search-requires : tie.Need-search-requires
 search-requires c κs = search needs
@@ -88,7 +93,7 @@ returns : tie.Need-returns
 returns c =
     let call = c .before .before in
     let found = call .before .before .before .before .before .before .before .before .before .before .before in
-    rw (met-printed (begin found .pre .0) (found .search .ensures .1 .1 .0) (found .search .ensures .1 .1 .1 .0) (said found (call .before .before .before .before .before .answer .given .1))) at (call .met-text .ensures)
+    reading (met-printed (begin found .pre .0) (found .search .ensures .1 .1 .0) (found .search .ensures .1 .1 .1 .0) (said found (call .before .before .before .before .before .answer .given .1))) (call .met-text .ensures)
 
 same-length-4 : tie.Need-same-length-4
 same-length-4 c = search needs
@@ -103,7 +108,7 @@ returns-2 : tie.Need-returns-2
 returns-2 c =
     let call = c .before .before in
     let found = call .before .before .before .before .before .before .before .before .before .before in
-    rw (cannot-printed (begin found .pre .0) (found .search .ensures .1 .1 .0) (found .search .ensures .1 .1 .1 .0) (said found (call .before .before .before .before .answer2 .given .1))) at (call .cannot-text .ensures)
+    reading (cannot-printed (begin found .pre .0) (found .search .ensures .1 .1 .0) (found .search .ensures .1 .1 .1 .0) (said found (call .before .before .before .before .answer2 .given .1))) (call .cannot-text .ensures)
 
 same-length-7 : tie.Need-same-length-7
 same-length-7 c = search needs
@@ -118,8 +123,7 @@ returns-3 : tie.Need-returns-3
 returns-3 c =
     let call = c .before .before in
     let found = call .before .before .before .before .before .before .before .before .before in
-    rw (refused-printed (begin found .pre .0) (said found (call .before .before .before .answer3 .given .1)))
-    at (call .refused-text .ensures)
+    reading (refused-printed (begin found .pre .0) (said found (call .before .before .before .answer3 .given .1))) (call .refused-text .ensures)
 
 same-length-10 : tie.Need-same-length-10
 same-length-10 c = search needs
@@ -134,8 +138,7 @@ returns-4 : tie.Need-returns-4
 returns-4 c =
     let call = c .before .before in
     let found = call .before .before .before .before .before .before .before .before .before in
-    rw (refused-printed (begin found .pre .0) (said found (call .before .before .before .answer4 .given .1)))
-    at (call .refused-text2 .ensures)
+    reading (refused-printed (begin found .pre .0) (said found (call .before .before .before .answer4 .given .1))) (call .refused-text2 .ensures)
 
 pub print-search-spec : {M : Type 1} → statement M
 print-search-spec =
