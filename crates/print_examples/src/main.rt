@@ -3,7 +3,7 @@
 //     LABEL: HEX..
 //
 // The sheet's bytes are in hexadecimal; blanks may stand anywhere among the digits. Standard output has the label on a line of its own and then the
-// printed text. tests/make_examples.py writes the input.
+// printed text. There is room for 8,192 bytes of cases and 1,024 of a sheet, which is plenty for these. tests/make_examples.py writes the input.
 mod hex; // hex.rt: bytes from their digits
 
 ghost use Prim.Native.Nat.{_<_, _≤_};
