@@ -1,9 +1,9 @@
 -- How long the lines and the texts are at most: every text of the program has room in `textRoom` bytes.
 use Prim.Native.Nat.{ℕ, suc, _+_, _*_, _-_, _^_, _≤_, _<_}
 use mathlib.Core.List.{List, [], _∷_, _++_, map, append-nil}
-use mathlib.Core.Path.{_≡_, _∙_}
+use mathlib.Core.Path.{_≡_, ap, _∙_}
 use native.Mathlib.Omega.{arith}
-use lib.ListN.{length, getD, length-append}
+use lib.ListN.{length, getD, drop, length-append}
 use lib.Seq.{drop-nil}
 use Rattle.sheet.specs.Format.{lotCount, conditionCount, recordCount}
 use Rattle.sheet.specs.Checks.{Accepted}
@@ -20,7 +20,7 @@ use Rattle.store.proofs.Fitting.{search-fits}
 use Rattle.store.proofs.Grouping.{grouping-length, grouping-number}
 use Rattle.text.specs.Lines.{decimal, line, lotsWord, conditionsWord, termsWord, splitWord, groundWord, metWord, cannotWord, refusedWord}
 use Rattle.text.specs.Program.{programCapacity, headerLine, recordLine, recordLines, refusedLine, metLine, cannotLine, resultText}
-use Rattle.text.specs.Code.{textRoom}
+use Rattle.text.specs.Code.{Printed, textRoom}
 use Rattle.text.proofs.Digits.{decimal-most}
 
 -- ---- a line
@@ -130,3 +130,9 @@ module _ (s : List ℕ) (ok : Accepted s) where
           line-length cannotWord (decimal (nodeCount tree) ∷ []),
           two-bytes (nodeCount tree) (omega arith),
         )
+
+-- ---- a printed text
+
+-- It stands whole in the buffer.
+pub printed-within : {before after : List ℕ} {count : ℕ} {text : List ℕ} → Printed before after count text → count ≤ length after
+printed-within {before} {text = text} p = omega (arith, p .counted, ap length (p .bytes), length-append text (drop (length text) before))

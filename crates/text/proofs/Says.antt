@@ -1,11 +1,11 @@
 -- The texts that the code writes are those of the definitions, and the program's search is the search of its buffers.
 use Prim.Native.Nat.{ℕ, _≤_}
 use mathlib.Core.List.{List, [], _∷_}
-use mathlib.Core.Path.{_≡_, refl, ap, _∙_, sym}
+use mathlib.Core.Path.{_≡_, refl, ap₂, _∙_}
 use native.Mathlib.Omega.{arith}
 use borrow.Author.Tests.{le-ltb}
 use lib.ListN.{length, take, drop}
-use lib.Seq.{take-at}
+use lib.Seq.{take-all, take-take, take-at}
 use Rattle.sheet.specs.declared.Verdict.{Verdict}
 use Rattle.sheet.specs.declared.Verdict.the-variants.{Passes, Refuses}
 use Rattle.sheet.specs.Format.{mostLots, lotCount}
@@ -52,22 +52,27 @@ no-refusal : (s grouping : List ℕ) → Accepted s → mostLots ≤ length grou
 unfolding firstRefusal check8
 no-refusal s grouping ok room = rw (le-ltb (length grouping) (lotCount s) (omega (arith, sound s ok .header .lots)))
 
--- A grouping for every lot refuses no sheet: with it, and a store of the program's, the search comes to what the program prints.
-pub program-result : (s grouping store : List ℕ) (tree : Tree) → mostLots ≤ length grouping → capacity store ≡ programCapacity
-    → resultOf (groupingVerdict s grouping) (capacity store) tree ≡ resultOf (sheetVerdict s) programCapacity tree
+-- A grouping for every lot refuses no sheet:
+same-verdict : (s grouping : List ℕ) → mostLots ≤ length grouping → groupingVerdict s grouping ≡ sheetVerdict s
 unfolding groupingVerdict
-program-result s grouping store tree room size =
-    ap (λ (v : Verdict). resultOf v (capacity store) tree) (further s (check8 s grouping ∷ []) ∙ passed (sheetVerdict s) refl)
-    ∙ ap (λ (c : ℕ). resultOf (sheetVerdict s) c tree) size
+same-verdict s grouping room = further s (check8 s grouping ∷ []) ∙ passed (sheetVerdict s) refl
   where
     passed : (v : Verdict) → sheetVerdict s ≡ v → orElse (sheetVerdict s) (firstRefusal (check8 s grouping ∷ [])) ≡ sheetVerdict s
     passed (Refuses check place) e = rw e
     passed Passes e = rw (e, no-refusal s grouping e room)
 
-pub printed-says : (input grouping store : List ℕ) → mostLots ≤ length grouping → capacity store ≡ programCapacity
-    → printed input
-    ≡ resultText (take mostInput input)
-    (resultOf (groupingVerdict (take mostInput input) grouping) (capacity store) (searchTree (conditions (take mostInput input))))
+-- with it, and a store of the program's, the search comes to what the program prints.
+pub program-result : (s grouping store : List ℕ) (tree : Tree) → mostLots ≤ length grouping → capacity store ≡ programCapacity
+    → resultOf (groupingVerdict s grouping) (capacity store) tree ≡ resultOf (sheetVerdict s) programCapacity tree
+program-result s grouping store tree room size = ap₂ (λ (v : Verdict) (c : ℕ). resultOf v c tree) (same-verdict s grouping room) size
+
+-- The program takes no more of an input than a sheet can need,
+pub printed-taken : (input : List ℕ) → printed (take mostInput input) ≡ printed input
 unfolding printed
-printed-says input grouping store room size =
-    let s = take mostInput input in ap (resultText s) (sym (program-result s grouping store (searchTree (conditions s)) room size))
+printed-taken input = rw (take-take mostInput mostInput input (omega arith))
+
+-- and the whole of one that is no longer.
+pub printed-short : (s : List ℕ) → length s ≤ mostInput
+    → printed s ≡ resultText s (resultOf (sheetVerdict s) programCapacity (searchTree (conditions s)))
+unfolding printed
+printed-short s short = rw (take-all mostInput s short)

@@ -4,11 +4,11 @@ use mathlib.Core.List.{List, _++_, map}
 use mathlib.Core.Path.{_≡_}
 use lib.ListN.{length, take}
 use lib.Seq.{sets}
-use Rattle.sheet.specs.Format.{headerLength, lotCount}
+use Rattle.sheet.specs.Format.{mostLots, headerLength, lotCount}
 use Rattle.sheet.specs.Conditions.{countUp}
-use Rattle.store.specs.Records.{NodeRecord, recordAt, recordLength}
+use Rattle.store.specs.Records.{NodeRecord, recordAt, recordLength, capacity}
 use Rattle.store.specs.Outcome.{written}
-use Rattle.text.specs.Program.{headerLine, recordLines, metLine, cannotLine}
+use Rattle.text.specs.Program.{mostInput, programCapacity, headerLine, recordLines, metLine, cannotLine}
 
 -- Of the buffer `before`, the bytes from place `at` on were overwritten with `bytes`, and no others; `next` is the place after them.
 pub record Wrote (before after : List ℕ) (at next : ℕ) (bytes : List ℕ) : Type 0 where
@@ -39,3 +39,9 @@ pub record Printable (s : List ℕ) (count : ℕ) (store : List ℕ) : Type 0 wh
 -- Room for every text of the program (proofs/Room).
 abbrev pub textRoom : ℕ
 textRoom = 170000
+
+-- What the program's search is lent: a sheet of no more bytes than the program takes, and buffers of the program's room.
+pub record Lent (s grouping store : List ℕ) : Type 0 where
+  pub short : length s ≤ mostInput
+  pub lots : mostLots ≤ length grouping
+  pub records : capacity store ≡ programCapacity

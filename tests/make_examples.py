@@ -1,0 +1,87 @@
+#!/usr/bin/env python3
+# Writes the standard input of the program print_examples: a case a line, its label and its sheet in hexadecimal.
+#
+#     python3 tests/make_examples.py > crates/print_examples/stdin
+#
+# The cases are the starred sheets of document 01 (but for "C with S = 3": the program has 7,000 records, and the row stands in the proved table), a
+# refusal by each of checks 1 to 7 and by a full store, sheets with no lots and with the most, and phe(5) and circ(5) of source document 001, part 7.
+# Nothing here searches: what the program is to print for these stands in crates/print_examples/stdout.
+
+
+def numbers(*values):
+    """Two-byte numbers, low byte first."""
+    return b''.join(v.to_bytes(2, 'little') for v in values)
+
+
+def term(text):
+    """A term, as 'same 1 2', as its sign and lots."""
+    word, a, b = text.split()
+    return {'same': 1, 'apart': 2}[word], int(a), int(b)
+
+
+def sheet(lots, conditions):
+    """The bytes of a sheet: each condition is its terms joined by ' or ', and has its records one after the other; '' has no term."""
+    heads, records = [], []
+    for condition in conditions:
+        terms = [term(t) for t in condition.split(' or ')] if condition else []
+        heads.append(len(records) + 1 if terms else 0)
+        for i, (sign, a, b) in enumerate(terms):
+            following = len(records) + 2 if i + 1 < len(terms) else 0
+            records.append(bytes([sign, 0]) + numbers(a, b, following))
+    return numbers(lots, len(heads), len(records)) + numbers(*heads) + b''.join(records)
+
+
+def changed(data, at, value):
+    """The same bytes but for one."""
+    return data[:at] + bytes([value]) + data[at + 1:]
+
+
+def phe(n):
+    """Lots 1 to n differ, and for each of them another one is the same as lot n + 1."""
+    lots = range(1, n + 1)
+    differ = ['apart %d %d' % (i, j) for i in lots for j in lots if i < j]
+    hit = [' or '.join('same %d %d' % (j, n + 1) for j in lots if j != i) for i in lots]
+    return sheet(n + 1, differ + hit)
+
+
+def circ(n):
+    """Of the n equations of neighbours on a ring one is false, and no two are."""
+    ring = ['%d %d' % (i, i % n + 1) for i in range(1, n + 1)]
+    false = ' or '.join('apart ' + e for e in ring)
+    pairs = ['same %s or same %s' % (d, e) for i, d in enumerate(ring) for e in ring[i + 1:]]
+    return sheet(n, [false] + pairs)
+
+
+def doubling(conditions):
+    """Conditions of two "same" terms, no two of which share a lot, then one that nothing meets: 4 * 2**conditions - 3 nodes."""
+    two = ['same %d %d or same %d %d' % (i + 1, i + 2, i + 3, i + 4) for i in range(0, 4 * conditions, 4)]
+    return sheet(4 * conditions, two + ['apart 1 1'])
+
+
+C = sheet(3, ['same 1 2 or same 1 3', 'apart 1 2'])
+
+CASES = [
+    ('A', sheet(3, ['same 1 2', 'same 2 3', 'apart 1 3'])),
+    ('B', sheet(3, ['same 1 2 or apart 2 3', 'same 1 3 or apart 1 2 or same 2 3', 'apart 1 3'])),
+    ('C', C),
+    ('D', sheet(3, ['apart 1 2 or apart 2 3 or apart 3 1', 'same 1 2 or same 2 3', 'same 1 2 or same 3 1', 'same 2 3 or same 3 1'])),
+    ('no lots, conditions and terms', sheet(0, [])),
+    ('one condition, head zero', sheet(0, [''])),
+    ('same 1 1', sheet(1, ['same 1 1'])),
+    ('apart 1 1', sheet(1, ['apart 1 1'])),
+    ('no lots, three conditions of no term', sheet(0, ['', '', ''])),
+    ('128 lots, no condition', sheet(128, [])),
+    ('check 1, five bytes', C[:5]),
+    ('check 2, 129 lots', sheet(129, [])),
+    ('check 3, C and a byte more', C + bytes(1)),
+    ('check 4, head 2 of C above k', changed(C, 8, 4)),
+    ('check 5, sign 3 in record 2 of C', changed(C, 18, 3)),
+    ('check 6, a next that is its own record', numbers(1, 1, 1) + numbers(1) + bytes([1, 0]) + numbers(1, 1, 1)),
+    ('check 7, record 1 on no chain', numbers(1, 1, 1) + numbers(0) + bytes([1, 0]) + numbers(1, 1, 0)),
+    ('check 9, 8189 nodes', doubling(11)),
+    ('phe 5', phe(5)),
+    ('circ 5', circ(5)),
+]
+
+for label, data in CASES:
+    print('%s: %s' % (label, data.hex(' ', -2)))
