@@ -6,6 +6,7 @@ ghost use Rattle.evaluator.specs.Answers.{evaluationAnswer};
 ghost use Rattle.store.specs.Outcome.{searchOutcome};
 ghost use Rattle.search.specs.Answers.{searchAnswer};
 ghost use Rattle.exports.specs.Answers.{numbersOf};
+ghost use Rattle.exports.specs.Promises.{NineExactly, OneExactly, OneMeets, TwoExactly, TwoRefutes, SecondBounded, FirstUnmet};
 use evaluator::Evaluation;
 use search::SearchAnswer;
 use sheet::Reading;
@@ -86,7 +87,8 @@ pub extern "C" fn lihumbay_read(sheet: &[u8]) -> Numbers
 // The evaluator: 0 where all conditions are met, else the lowest that isn't.
 #[no_mangle]
 pub extern "C" fn lihumbay_evaluate(sheet: &[u8], grouping: &[u8]) -> Numbers
-    ensures { λ r. ⌜ r ≡ numbersOf (evaluateAnswer (now (sheet .entry)) (now (grouping .entry))) ⌝ }
+    ensures answer { λ r. ⌜ r ≡ numbersOf (evaluateAnswer (now (sheet .entry)) (now (grouping .entry))) ⌝ }
+    ensures meaning { λ r. ⌜ FirstUnmet r (now (sheet .entry)) (now (grouping .entry)) ⌝ }
 {
     of_evaluation(evaluator::evaluate(sheet, grouping))
 }
@@ -97,6 +99,12 @@ pub extern "C" fn lihumbay_search(sheet: &[u8], grouping: &mut [u8], store: &mut
     ensures answer { λ r. ⌜ r ≡ numbersOf (searchOutcome (now (sheet .entry)) (now (grouping .entry)) (now (store .entry)) .answer) ⌝ }
     ensures grouping { λ r. ⌜ now (grouping .exit) ≡ searchOutcome (now (sheet .entry)) (now (grouping .entry)) (now (store .entry)) .grouping ⌝ }
     ensures store { λ r. ⌜ now (store .exit) ≡ searchOutcome (now (sheet .entry)) (now (grouping .entry)) (now (store .entry)) .store ⌝ }
+    ensures full { λ r. ⌜ NineExactly r (now (sheet .entry)) (now (grouping .entry)) (now (store .entry)) ⌝ }
+    ensures met { λ r. ⌜ OneExactly r (now (sheet .entry)) ⌝ }
+    ensures meets { λ r. ⌜ OneMeets r (now (sheet .entry)) (now (grouping .exit)) ⌝ }
+    ensures cannot { λ r. ⌜ TwoExactly r (now (sheet .entry)) ⌝ }
+    ensures refutes { λ r. ⌜ TwoRefutes r (now (sheet .entry)) (now (store .exit)) ⌝ }
+    ensures count { λ r. ⌜ SecondBounded r (now (sheet .entry)) ⌝ }
 {
     of_search(search::search(sheet, grouping, store))
 }

@@ -2,6 +2,7 @@
 use borrow.Author.Needs.{needs}
 use mathlib.Core.Path.{ap, _∙_}
 use Rattle.exports.specs.Answers.{numbersOf}
+use Rattle.exports.proofs.Promised.{nine, one, one-meets, two, two-refutes, second}
 use Rattle.exports.proofs.lihumbay_search.Statement.{statement}
 use Rattle.exports.proofs.lihumbay_search.Tie as tie
 
@@ -18,7 +19,37 @@ same-length-2 : tie.Need-same-length-2
 same-length-2 c = search needs
 
 returns : tie.Need-returns
-returns c = let called = c .before .before .before .before .before .search in (c .of-search .ensures ∙ ap numbersOf (called .ensures .1 .0), (called .ensures .1 .1 .0, called .ensures .1 .1 .1 .0))
+returns c =
+    let called = c .before .before .before .before .before .search in
+    let begin = c .before .before .before .before .before .before .before .before .before .before .before .args in
+    let s = begin .sheet .now in
+    let grouping = begin .grouping .now in
+    let early = called .ensures .1 .1 .1 .1 .0 in
+    let promised = called .ensures .1 .1 .1 .1 .1 in (
+      c .of-search .ensures ∙ ap numbersOf (called .ensures .1 .0),
+      (
+        called .ensures .1 .1 .0,
+        (
+          called .ensures .1 .1 .1 .0,
+          (
+            rw (c .of-search .ensures) (nine s grouping (begin .store .now) (called .result) early (promised .0)),
+            (
+              rw (c .of-search .ensures) (one s grouping (called .result) early (promised .1 .1 .0)),
+              (
+                rw (c .of-search .ensures) (one-meets s grouping (called .last .1 .0) (called .result) early (promised .1 .1 .1 .0)),
+                (
+                  rw (c .of-search .ensures) (two s grouping (called .result) early (promised .1 .1 .1 .1 .0)),
+                  (
+                    rw (c .of-search .ensures) (two-refutes s grouping (called .last .1 .1 .0) (called .result) early (promised .1 .1 .1 .1 .1 .0)),
+                    rw (c .of-search .ensures) (second s grouping (called .result) early (promised .1 .1 .1 .1 .1 .1)),
+                  ),
+                ),
+              ),
+            ),
+          ),
+        ),
+      ),
+    )
 
 pub lihumbay-search-spec : {M : Type 1} → statement M
 lihumbay-search-spec =
