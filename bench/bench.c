@@ -53,10 +53,19 @@ static unsigned compare(const char *name, const sheet *s) {
     return r[0].check == 9 ? r[0].first : r[0].second;
 }
 
+/* The count that the family is known to have, or a full store. */
+static void expect(const char *name, unsigned nodes, unsigned known) {
+    if (nodes != (known < 65535 ? known : 65535)) {
+        printf("%s: %u nodes, and not %u\n", name, nodes, known);
+        exit(1);
+    }
+}
+
 /* One line: the least of nine batches of each, taken in turns, so that a disturbance of the machine meets all three. */
-static void measure(const char *name, const sheet *s) {
+static void measure(const char *name, const sheet *s, unsigned known) {
     double best[3] = {1e9, 1e9, 1e9};
     unsigned nodes = compare(name, s);
+    expect(name, nodes, known);
     for (int round = 0; round < 9; round++)
         for (int i = 0; i < 3; i++) {
             double t = batch(i, s) / nodes * 1e9;
@@ -74,26 +83,28 @@ static void long_conditions(void) {
     for (int i = 0; i < 3; i++) {
         sheet_long_condition(&s, 128, terms[i]);
         snprintf(name, sizeof name, "one condition of %u terms", terms[i]);
-        measure(name, &s);
+        measure(name, &s, 2 * terms[i] + 1);
     }
 }
 
 static void dearest(unsigned r, unsigned w, const char *note) {
     static sheet s;
     char name[64];
+    unsigned paths = 1, power = 1;
+    for (unsigned i = 0; i < r; i++) paths += power *= w;
     sheet_dearest(&s, r, w);
     snprintf(name, sizeof name, "dearest r = %u, w = %u%s", r, w, note);
-    measure(name, &s);
+    measure(name, &s, 2 * paths - 1);
 }
 
 static void random_sheets(void) {
     static sheet s;
     char name[64];
-    struct { unsigned seed, conditions, width; } sizes[] = {{5, 208, 2}, {10, 256, 3}, {6, 256, 3}};
+    struct { unsigned seed, conditions, width, nodes; } sizes[] = {{5, 208, 2, 5195}, {10, 256, 3, 2117}, {6, 256, 3, 8212}};
     for (unsigned i = 0; i < sizeof sizes / sizeof sizes[0]; i++) {
         sheet_random(&s, sizes[i].seed, sizes[i].conditions, sizes[i].width);
         snprintf(name, sizeof name, "random %u x %u, seed %u", sizes[i].conditions, sizes[i].width, sizes[i].seed);
-        measure(name, &s);
+        measure(name, &s, sizes[i].nodes);
     }
 }
 
@@ -106,9 +117,9 @@ int main(void) {
     dearest(3, 31, "");
     dearest(3, 40, ", full");
     sheet_circ(&s, 22);
-    measure("circ(22)", &s);
+    measure("circ(22)", &s, 22 * 22 - 22 + 1);
     sheet_phe(&s, 22);
-    measure("phe(22)", &s);
+    measure("phe(22)", &s, 22 * 22 + 22 - 1);
     random_sheets();
     return 0;
 }

@@ -45,14 +45,26 @@ static void write_sheet(sheet *s, const draft *d, unsigned lots) {
     }
 }
 
+/* A condition of "same" terms over the first pairs a < b of the lots. */
+static void same_pairs(draft *d, unsigned lots, unsigned terms) {
+    condition(d);
+    for (unsigned a = 1; a <= lots; a++)
+        for (unsigned b = a + 1; b <= lots && d->terms < terms; b++) term(d, SAME, a, b);
+}
+
 void sheet_long_condition(sheet *s, unsigned lots, unsigned terms) {
     draft d = {0};
-    condition(&d);
-    for (unsigned a = 1; a <= lots; a++)
-        for (unsigned b = a + 1; b <= lots && d.terms < terms; b++) term(&d, SAME, a, b);
+    same_pairs(&d, lots, terms);
     condition(&d);
     term(&d, APART, 1, 1);
     write_sheet(s, &d, lots);
+}
+
+void sheet_deepest(sheet *s) {
+    draft d = {0};
+    same_pairs(&d, 128, 1024);
+    condition(&d);
+    write_sheet(s, &d, 128);
 }
 
 void sheet_dearest(sheet *s, unsigned r, unsigned w) {

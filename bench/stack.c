@@ -1,4 +1,4 @@
-/* How much stack a search takes on the deepest path, 1,023 splits: it runs on a painted stack of 8 MB, and what was painted over is counted. Then it runs once
+/* How much stack a search takes on the longest path that a sheet can have, 1,024 splits: it runs on a painted stack of 8 MB, and what was painted over is counted. Then it runs once
    more on the program's own stack, so that a limit set by the shell is tried too. */
 #define _GNU_SOURCE
 #include <pthread.h>
@@ -21,13 +21,13 @@ static void *nothing(void *unused) {
 
 static void *product(void *unused) {
     lihumbay_numbers r = lihumbay_search(s.bytes, s.length, grouping, s.lots, store, sizeof store);
-    if (r.check != 0 || r.first != 2 || r.second != 2047) exit(1);
+    if (r.check != 0 || r.first != 2 || r.second != 2049) exit(1);
     return unused;
 }
 
 static void *plain(void *unused) {
     lihumbay_numbers r = plain_search(1, s.bytes, grouping, store, sizeof store);
-    if (r.check != 0 || r.first != 2 || r.second != 2047) exit(1);
+    if (r.check != 0 || r.first != 2 || r.second != 2049) exit(1);
     return unused;
 }
 
@@ -49,7 +49,7 @@ static size_t used(void *(*body)(void *)) {
 
 int main(void) {
     size_t thread = used(nothing);
-    sheet_long_condition(&s, 128, 1023);
+    sheet_deepest(&s);
     printf("stack of the product: %zu bytes\n", used(product) - thread);
     printf("stack of the C search: %zu bytes\n", used(plain) - thread);
     product(NULL);

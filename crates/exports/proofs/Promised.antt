@@ -1,13 +1,17 @@
 -- The search's and the evaluator's promises, of the case that they answer, carried over to its numbers.
 use Prim.Native.Nat.{ℕ, zero, suc, _≤_}
-use mathlib.Core.List.{List}
-use mathlib.Core.Path.{_≡_, refl, _∙_}
+use mathlib.Core.List.{List, []}
+use mathlib.Core.Path.{_≡_, refl, sym, _∙_}
 use native.Mathlib.Omega.{arith}
 use Rattle.sheet.specs.declared.Verdict.{Verdict}
 use Rattle.sheet.specs.declared.Verdict.the-variants.{Passes, Refuses}
 use Rattle.sheet.specs.Conditions.{conditions}
-use Rattle.sheet.specs.Answers.{refused, answered, answerOf}
+use Rattle.sheet.specs.declared.Reading.{Reading}
+use Rattle.sheet.specs.declared.Reading.the-variants as reading
+use Rattle.sheet.specs.Answers.{refused, answered, answerOf, readAnswer, readingAnswer}
+use Rattle.sheet.proofs.Readings.{read-accepts, read-refuses}
 use Rattle.equality.specs.Evaluator.{groupingVerdict, numberIn, lowestUnmet, evaluateAnswer}
+use Rattle.equality.proofs.Checked.{sheet-refused}
 use Rattle.evaluator.specs.declared.Evaluation.{Evaluation}
 use Rattle.evaluator.specs.declared.Evaluation.the-variants as evaluation
 use Rattle.evaluator.specs.Answers.{evaluationAnswer, unmetOr, Evaluated}
@@ -16,8 +20,20 @@ use Rattle.search.specs.declared.SearchAnswer.the-variants.{Met, Cannot, Full, 
 use Rattle.search.specs.Answers.{searchAnswer}
 use Rattle.search.specs.Promises.{RefusedExactly, FullExactly, MetExactly, MetGrouping, CannotExactly, CannotRefutes, CountBounded}
 use Rattle.exports.specs.Answers.{numbersOf}
-use Rattle.exports.specs.Promises.{NineExactly, OneExactly, OneMeets, TwoExactly, TwoRefutes, SecondBounded, FirstUnmet}
+use Rattle.exports.specs.Promises.{ZeroExactly, NineExactly, OneExactly, OneMeets, TwoExactly, TwoRefutes, SecondBounded, FirstUnmet}
 use Rattle.exports.proofs.Early.{refusal-early}
+
+-- A sheet that is refused is not accepted, and the check is not 0: a call with a grouping would fail it too.
+pub zero-exactly : (s : List ℕ) (a : Reading) → readingAnswer a ≡ readAnswer s → ZeroExactly (numbersOf (readingAnswer a)) s
+zero-exactly s (reading.Accepted n m k) answer = ((λ z. read-accepts s n m k answer .accepted), (λ ok. refl))
+zero-exactly s (reading.Refused check place) answer =
+    let refuses = read-refuses s check place answer in (
+      (λ z. absurd (omega (arith, z, refusal-early s [] check place (sheet-refused s [] check place refuses) .0))),
+      (λ ok. absurd (never check place (sym ok ∙ refuses))),
+    )
+  where
+    never : (check place : ℕ) → Passes ≡ Refuses check place → ⊥
+    never check place e = let z : _≡_ {A = ℕ} 0 1 = cc in absurd (omega arith)
 
 module _ (s grouping : List ℕ) where
   -- A case that refuses before the search has a number from 1 to 8.

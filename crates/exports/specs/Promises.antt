@@ -5,6 +5,7 @@ use mathlib.Core.Logic.{_↔_}
 use mathlib.Core.Path.{_≡_}
 use lib.ListN.{take}
 use Rattle.sheet.specs.declared.Verdict.the-variants.{Passes}
+use Rattle.sheet.specs.Checks.{Accepted}
 use Rattle.sheet.specs.Conditions.{conditions}
 use Rattle.equality.specs.Meaning.{Meets}
 use Rattle.equality.specs.Search.{searchTree, nodeCount, branching}
@@ -13,6 +14,10 @@ use Rattle.evaluator.specs.Answers.{unmetOr, Evaluated}
 use Rattle.store.specs.Records.{recordLength, capacity}
 use Rattle.refutation.specs.Refutation.{Refutes}
 use Rattle.exports.specs.declared.Numbers.{Numbers}
+
+-- Of the reader: no check refuses exactly when the sheet is accepted.
+abbrev pub ZeroExactly : Numbers → List ℕ → Type 0
+ZeroExactly r s = r .check ≡ 0 ↔ Accepted s
 
 -- Store full exactly when no earlier check refuses and the search visits more nodes than the store holds records.
 abbrev pub NineExactly : Numbers → List ℕ → List ℕ → List ℕ → Type 0

@@ -6,7 +6,7 @@ ghost use Rattle.evaluator.specs.Answers.{evaluationAnswer};
 ghost use Rattle.store.specs.Outcome.{searchOutcome};
 ghost use Rattle.search.specs.Answers.{searchAnswer};
 ghost use Rattle.exports.specs.Answers.{numbersOf};
-ghost use Rattle.exports.specs.Promises.{NineExactly, OneExactly, OneMeets, TwoExactly, TwoRefutes, SecondBounded, FirstUnmet};
+ghost use Rattle.exports.specs.Promises.{ZeroExactly, NineExactly, OneExactly, OneMeets, TwoExactly, TwoRefutes, SecondBounded, FirstUnmet};
 use evaluator::Evaluation;
 use search::SearchAnswer;
 use sheet::Reading;
@@ -79,7 +79,8 @@ fn of_search(answer: SearchAnswer) -> Numbers
 // The reader: lots, conditions and terms.
 #[no_mangle]
 pub extern "C" fn lihumbay_read(sheet: &[u8]) -> Numbers
-    ensures { λ r. ⌜ r ≡ numbersOf (readAnswer (now (sheet .entry))) ⌝ }
+    ensures answer { λ r. ⌜ r ≡ numbersOf (readAnswer (now (sheet .entry))) ⌝ }
+    ensures accepted { λ r. ⌜ ZeroExactly r (now (sheet .entry)) ⌝ }
 {
     of_reading(sheet::read(sheet))
 }
