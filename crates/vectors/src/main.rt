@@ -2,16 +2,14 @@
 // one, and the file stdout what it answered. A case is the service in one byte (0 read, 1 search, 2 check, 3 evaluate), then three buffers, each its
 // length in four bytes, low byte first, and its bytes: the sheet; the grouping or the list; the store. A line of output is the service, the answer as
 // four numbers, and a checksum of the second and of the third buffer after the call. The program compares nothing itself.
-mod answers; // answers.rt: an answer as four numbers
-
 ghost use Prim.Native.Nat.{_+_, _≤_};
 ghost use lib.ListN.{length};
-use answers::Numbers;
+use exports::Numbers;
 use libc::STDOUT_FILENO;
 
-// The services that are there: no search and no checker yet.
+// The services that are there: no checker yet.
 fn is_there(service: u8) -> bool {
-    service == 0 || service == 3
+    service != 2
 }
 
 fn main() {
@@ -53,7 +51,7 @@ fn case(fd: i32, service: u8) -> bool {
     let b = buffer(fd, &mut second);
     let c = buffer(fd, &mut third);
     if is_there(service) {
-        run(service, &sheet[..a], &second[..b], &third[..c]);
+        run(service, &sheet[..a], &mut second[..b], &mut third[..c]);
         true
     } else {
         false
@@ -91,21 +89,18 @@ fn two_bytes(fd: i32) -> usize {
 }
 
 // One case: the call, and its line.
-fn run(service: u8, sheet: &[u8], second: &[u8], third: &[u8]) {
+fn run(service: u8, sheet: &[u8], second: &mut [u8], third: &mut [u8]) {
+    let answer = call(service, sheet, second, third);
+    say(service, answer, second, third);
+}
+
+fn call(service: u8, sheet: &[u8], second: &mut [u8], third: &mut [u8]) -> Numbers {
     if service == 0 {
-        say(
-            service,
-            answers::of_reading(sheet::read(sheet)),
-            second,
-            third,
-        );
+        exports::lihumbay_read(sheet)
+    } else if service == 1 {
+        exports::lihumbay_search(sheet, second, third)
     } else {
-        say(
-            service,
-            answers::of_evaluation(evaluator::evaluate(sheet, second)),
-            second,
-            third,
-        );
+        exports::lihumbay_evaluate(sheet, second)
     }
 }
 

@@ -32,14 +32,14 @@ array-share-prefix-sheet c = search needs
 slice-aggregate-run : tie.Need-slice-aggregate-run
 slice-aggregate-run c = let called = c .before .before .before .before .before .before .before .before .before .before .buffer in sym (length-take-le _ _ (called .ensures))
 
-array-share-prefix-second : tie.Need-array-share-prefix-second
-array-share-prefix-second c = search needs
+array-borrow-prefix-second : tie.Need-array-borrow-prefix-second
+array-borrow-prefix-second c = search needs
 
 slice-aggregate-run-2 : tie.Need-slice-aggregate-run-2
 slice-aggregate-run-2 c = let called = c .before .before .before .before .before .before .before .before .buffer2 in sym (length-take-le _ _ (called .ensures))
 
-array-share-prefix-third : tie.Need-array-share-prefix-third
-array-share-prefix-third c = search needs
+array-borrow-prefix-third : tie.Need-array-borrow-prefix-third
+array-borrow-prefix-third c = search needs
 
 slice-aggregate-run-3 : tie.Need-slice-aggregate-run-3
 slice-aggregate-run-3 c = let called = c .before .before .before .before .before .before .buffer3 in sym (length-take-le _ _ (called .ensures))
@@ -66,9 +66,9 @@ case-spec =
     is-there-requires
     array-share-prefix-sheet
     slice-aggregate-run
-    array-share-prefix-second
+    array-borrow-prefix-second
     slice-aggregate-run-2
-    array-share-prefix-third
+    array-borrow-prefix-third
     slice-aggregate-run-3
     run-requires
     returns
