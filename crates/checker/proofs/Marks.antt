@@ -3,16 +3,20 @@ use Prim.Native.Nat.{ℕ, _+_, _*_, _/_, _%_, _≤_, _<_}
 use mathlib.Core.Bool.{Bool, true, false, cond, _&&_, _||_}
 use mathlib.Core.List.{List, [], _∷_}
 use mathlib.Core.Path.{_≡_, refl, sym, ap, _∙_}
+use native.Mathlib.Numerals.{add-one}
 use native.Mathlib.Omega.{arith}
 use borrow.Author.Tests.{eqb-true, eqb-false, eq-eqb, ne-eqb}
 use lib.Dec.{eqb}
 use lib.ListN.{length, getD, set, replicate, length-set, length-replicate}
 use lib.Seq.{ext-getD, getD-set-same, getD-set-other}
 use Rattle.sheet.specs.Format.{mostLots}
-use Rattle.sheet.specs.Conditions.{same, apart, termOf}
+use Rattle.sheet.specs.Conditions.{Term, same, apart, termOf}
 use Rattle.sheet.proofs.Ranges.{All}
 use Rattle.equality.specs.Node.{Decisions, classOf, between, marked}
 use Rattle.equality.proofs.Small.{Small}
+use Rattle.refutation.specs.Refutation.{decisionsOf}
+use Rattle.path.specs.declared.Pair.{Pair}
+use Rattle.path.specs.Paths.{splitIn, pathOf, decisionOf}
 use Rattle.checker.specs.Table.{rowLength, tableLength, cell, Unmarked, stampClasses, stamped, ClassesWithin, mayHoldBy, mayHold}
 
 -- ---- one cell
@@ -124,3 +128,27 @@ may-hold-term cs table sign a b = go (eqb sign 1)
     go : (p : Bool) → mayHold cs table (cond p (same a b) (apart a b)) ≡ mayHoldBy table p (classOf cs a) (classOf cs b)
     go true = refl
     go false = refl
+
+-- ---- stamping split by split from the root on
+
+pub stamped-none : (value : ℕ) (cs l table : List ℕ) → table ≡ stamped value cs (decisionsOf (pathOf l 0)) table
+unfolding stamped pathOf
+stamped-none value cs l table = refl
+
+-- Split i has this pair.
+module _ (value : ℕ) (cs l table : List ℕ) (i : ℕ) (pair : Pair) (e : decisionOf pair ≡ splitIn l i .decision) where
+  with-split : (t : Term) → decisionOf pair ≡ t → stamped value cs (decisionsOf (pathOf l (i + 1))) table ≡ stamped value cs (t ∷ decisionsOf (pathOf l i)) table
+  unfolding pathOf
+  with-split t q = rw (add-one i) (ap (λ (u : Term). stamped value cs (u ∷ decisionsOf (pathOf l i)) table) (sym e ∙ q))
+
+  -- Set same it stamps nothing,
+  pub same-stamps : pair .same ≡ true → stamped value cs (decisionsOf (pathOf l (i + 1))) table ≡ stamped value cs (decisionsOf (pathOf l i)) table
+  unfolding stamped
+  same-stamps q = with-split (same (pair .a .0) (pair .b .0)) (simp q)
+
+  -- and set apart its two cells.
+  pub apart-stamps : pair .same ≡ false
+      → stamped value cs (decisionsOf (pathOf l (i + 1))) table
+      ≡ stampClasses value (classOf cs (pair .a .0)) (classOf cs (pair .b .0)) (stamped value cs (decisionsOf (pathOf l i)) table)
+  unfolding stamped
+  apart-stamps q = with-split (apart (pair .a .0) (pair .b .0)) (simp q)

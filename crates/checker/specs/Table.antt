@@ -48,9 +48,12 @@ abbrev pub mayHold : List ℕ → List ℕ → Term → Bool
 mayHold cs table (same a b) = mayHoldBy table true (classOf cs a) (classOf cs b)
 mayHold cs table (apart a b) = mayHoldBy table false (classOf cs a) (classOf cs b)
 
--- The sheet is accepted, with m conditions; the classes are of lots, and the table has its size.
-pub record Examinable (s : List ℕ) (m : ℕ) (cs table : List ℕ) : Type 0 where
-  pub accepted : Accepted s
-  pub counted : m ≡ conditionCount s
+-- The classes are of lots, and the table has its size.
+pub record Examinable (cs table : List ℕ) : Type 0 where
   pub within : ClassesWithin cs
   pub size : length table ≡ tableLength
+
+-- The sheet is accepted, and has m conditions.
+pub record Checkable (s : List ℕ) (m : ℕ) : Type 0 where
+  pub accepted : Accepted s
+  pub counted : m ≡ conditionCount s

@@ -7,12 +7,36 @@ ghost use lib.ListN.{length};
 ghost use Rattle.sheet.specs.Format.{mostLots, recordCount};
 ghost use Rattle.sheet.specs.Conditions.{termsFrom};
 ghost use Rattle.equality.specs.Meaning.{someTerm};
-ghost use Rattle.checker.specs.Table.{tableLength, mayHold, mayHoldBy, Examinable};
+ghost use Rattle.refutation.specs.Refutation.{decisionsOf, groundFails, named};
+ghost use Rattle.path.specs.Paths.{pathOf, PathWithin};
+ghost use Rattle.checker.specs.Table.{tableLength, Unmarked, stamped, ClassesWithin, mayHold, mayHoldBy, Checkable, Examinable};
 use classes::Classes;
+use sheet::Condition;
 use sheet::Record;
 
 // The cells of a row of the table of marks: one for each number that a class can have, 0 included.
 const ROW_LENGTH: usize = 129;
+
+// Stamps a value on the two cells of each pair of the path that is set apart, by the classes of its lots.
+fn stamp(table: &mut [u8], path: &[u32], depth: usize, map: Classes, value: u8)
+    requires { ⌜ (length (now table) ≡ tableLength) × PathWithin (now path) depth × ClassesWithin (map .lots) ⌝ }
+    ensures { λ _. ⌜ now (table .exit) ≡ stamped value (map .lots) (decisionsOf (pathOf (now (path .entry)) depth)) (now (table .entry)) ⌝ }
+{
+    let lots = map.lots;
+    let mut i: usize = 0;
+    while i < depth {
+        let pair = path::pair_at(path, i);
+        if !pair.same {
+            let a = pair.a.0 as usize;
+            let b = pair.b.0 as usize;
+            let x = lots[a] as usize;
+            let y = lots[b] as usize;
+            table[ROW_LENGTH * x + y] = value;
+            table[ROW_LENGTH * y + x] = value;
+        }
+        i += 1;
+    }
+}
 
 // Whether a term of a sign, whose lots have the classes x and y, is true or open.
 fn may_hold(table: &[u8], sign: u8, x: u8, y: u8) -> bool
@@ -28,7 +52,7 @@ fn may_hold(table: &[u8], sign: u8, x: u8, y: u8) -> bool
 
 // Whether every term of the chain from a record on is false. The map's array is read in place: a method that hands the map back would copy it for each term.
 fn all_false(sheet: &[u8], m: u16, map: Classes, table: &[u8], head: Record) -> bool
-    requires { ⌜ Examinable (now sheet) m (map .lots) (now table) × (head .0 ≤ recordCount (now sheet)) ⌝ }
+    requires { ⌜ Checkable (now sheet) m × Examinable (map .lots) (now table) × (head .0 ≤ recordCount (now sheet)) ⌝ }
     ensures { λ r. ⌜ r ≡ not (someTerm (mayHold (map .lots) (now (table .entry))) (termsFrom (now (sheet .entry)) (head .0))) ⌝ }
 {
     let lots = map.lots;
@@ -43,4 +67,26 @@ fn all_false(sheet: &[u8], m: u16, map: Classes, table: &[u8], head: Record) -> 
         at = t.next;
     }
     true
+}
+
+// Whether every term of a condition is false under the path. The pairs that the path sets apart are marked in the table for the test alone: it costs the
+// path's splits and the condition's terms, not their product.
+fn ground_holds(
+    sheet: &[u8],
+    m: u16,
+    path: &[u32],
+    depth: usize,
+    table: &mut [u8],
+    c: Condition,
+) -> bool
+    requires { ⌜ Checkable (now sheet) m × (1 ≤ c .0) × (c .0 ≤ m) × PathWithin (now path) depth × Unmarked (now table) ⌝ }
+    ensures holds { λ r. ⌜ r ≡ not (groundFails (decisionsOf (pathOf (now (path .entry)) depth)) (named (now (sheet .entry)) (c .0))) ⌝ }
+    ensures table { λ r. ⌜ Unmarked (now (table .exit)) ⌝ }
+{
+    let map = path::classes_of(path, depth);
+    let head = sheet::format::head_at(sheet, c);
+    stamp(table, path, depth, map, 1);
+    let holds = all_false(sheet, m, map, table, head);
+    stamp(table, path, depth, map, 0);
+    holds
 }

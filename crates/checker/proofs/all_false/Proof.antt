@@ -25,7 +25,7 @@ abbrev μ-loop : tie.MeasureT-loop
 μ-loop sheet m table lots at₀ at = length (recordsFrom sheet (at .0))
 
 loop-holds : tie.Need-loop-holds Inv-loop μ-loop
-loop-holds c = passing-start (mayHold _ _) _ _ (c .before .before .before .pre .1)
+loop-holds c = passing-start (mayHold _ _) _ _ (c .before .before .before .pre .2)
 
 -- In a turn: the record is one of the sheet's,
 record-number : (c : tie.Then1 Inv-loop μ-loop) → 1 ≤ c .before .before .loop .at .0
@@ -63,7 +63,7 @@ array-read-may-hold-2 : tie.Need-array-read-may-hold-2 Inv-loop μ-loop
 array-read-may-hold-2 c = omega (arith, second-entry (c .before .before))
 
 may-hold-requires : tie.Need-may-hold-requires Inv-loop μ-loop
-may-hold-requires c κs = let can = c .before .before .before .before .before .before .before .before .before .pre .0 in
+may-hold-requires c κs = let can = c .before .before .before .before .before .before .before .before .before .pre .1 in
     (can .size, can .within _ (first-entry (c .before .before)), can .within _ (second-entry (c .before .before)))
 
 -- What `may_hold` answers is whether the record's term is true or open.
