@@ -1,14 +1,18 @@
 // The refutation checker: whether a list of records, from any hand, refutes a sheet.
 ghost use mathlib.Core.Path.{_≡_};
 ghost use mathlib.Core.Bool.{not};
-ghost use Prim.Native.Nat.{_≤_};
+ghost use Prim.Native.Nat.{ℕ, _+_, _≤_};
 ghost use lib.Dec.{eqb};
 ghost use lib.ListN.{length};
 ghost use Rattle.sheet.specs.Format.{mostLots, recordCount};
 ghost use Rattle.sheet.specs.Conditions.{termsFrom};
 ghost use Rattle.equality.specs.Meaning.{someTerm};
-ghost use Rattle.refutation.specs.Refutation.{decisionsOf, groundFails, named};
+ghost use mathlib.Core.List.{List};
+ghost use Rattle.sheet.specs.declared.Verdict.{Verdict};
+ghost use Rattle.store.specs.Records.{NodeRecord, mostNodes};
+ghost use Rattle.refutation.specs.Refutation.{Split, decisionsOf, groundFails, nearest, afterGround, named};
 ghost use Rattle.path.specs.Paths.{pathOf, PathWithin};
+ghost use Rattle.checker.specs.Steps.{stepAs, noneLeft, Walkable, GoesOn};
 ghost use Rattle.checker.specs.Table.{tableLength, Unmarked, stamped, ClassesWithin, mayHold, mayHoldBy, Checkable, Examinable};
 use classes::Classes;
 use sheet::Condition;
@@ -16,6 +20,13 @@ use sheet::Record;
 
 // The cells of a row of the table of marks: one for each number that a class can have, 0 included.
 const ROW_LENGTH: usize = 129;
+
+// What a record leaves to the walk: it goes on with so many splits above the following record, the list passes, or a check refuses.
+pub enum Step {
+    On(usize),
+    Passes,
+    Refuses(u32, u32),
+}
 
 // Stamps a value on the two cells of each pair of the path that is set apart, by the classes of its lots.
 fn stamp(table: &mut [u8], path: &[u32], depth: usize, map: Classes, value: u8)
@@ -89,4 +100,28 @@ fn ground_holds(
     let holds = all_false(sheet, m, map, table, head);
     stamp(table, path, depth, map, 0);
     holds
+}
+
+// After a ground, at record r: the nearest split still in its same branch is turned, if its next is the following record; with no such split the list must end.
+fn after_ground(path: &mut [u32], depth: usize, r: u32, last: bool) -> Step
+    requires { ⌜ Walkable (now path) depth × (r ≤ mostNodes) ⌝ }
+    ensures walk { λ v. ⌜ ((walkRest : ℕ → List Split → Verdict) (rest : List NodeRecord) → last ≡ noneLeft rest
+        → afterGround walkRest rest (r + 1) (nearest (pathOf (now (path .entry)) depth)) ≡ stepAs walkRest (r + 1) (now (path .exit)) v) ⌝ }
+    ensures path { λ v. ⌜ GoesOn (now (path .exit)) v ⌝ }
+{
+    let top = path::nearest(path, depth);
+    if top == 0 {
+        return if last {
+            Step::Passes
+        } else {
+            Step::Refuses(14, r + 1)
+        };
+    }
+    let next = path::next_of(path, top);
+    if next.0 != r + 1 {
+        let number = path::number_of(path, top);
+        return Step::Refuses(13, number.0);
+    }
+    path::turn(path, top);
+    Step::On(top)
 }
