@@ -4,19 +4,22 @@ ghost use mathlib.Core.Bool.{not};
 ghost use Prim.Native.Nat.{ℕ, _+_, _≤_};
 ghost use lib.Dec.{eqb};
 ghost use lib.ListN.{length};
-ghost use Rattle.sheet.specs.Format.{mostLots, recordCount};
+ghost use Rattle.sheet.specs.Format.{mostLots, lotCount, recordCount};
+ghost use Rattle.sheet.specs.Checks.{lotInRange};
 ghost use Rattle.sheet.specs.Conditions.{termsFrom};
 ghost use Rattle.equality.specs.Meaning.{someTerm};
 ghost use mathlib.Core.List.{List};
 ghost use Rattle.sheet.specs.declared.Verdict.{Verdict};
-ghost use Rattle.store.specs.Records.{NodeRecord, mostNodes};
-ghost use Rattle.refutation.specs.Refutation.{Split, decisionsOf, groundFails, nearest, afterGround, named};
+ghost use Rattle.store.specs.Records.{NodeRecord, splitRecord, groundRecord, mostNodes};
+ghost use Rattle.refutation.specs.Refutation.{Split, decisionsOf, groundFails, nearest, afterGround, named, walkRecord};
 ghost use Rattle.path.specs.Paths.{pathOf, PathWithin};
 ghost use Rattle.checker.specs.Steps.{stepAs, noneLeft, Walkable, GoesOn};
 ghost use Rattle.checker.specs.Table.{tableLength, Unmarked, stamped, ClassesWithin, mayHold, mayHoldBy, Checkable, Examinable};
 use classes::Classes;
 use sheet::Condition;
+use sheet::Lot;
 use sheet::Record;
+use store::NodeNumber;
 
 // The cells of a row of the table of marks: one for each number that a class can have, 0 included.
 const ROW_LENGTH: usize = 129;
@@ -27,6 +30,9 @@ pub enum Step {
     Passes,
     Refuses(u32, u32),
 }
+
+// The most splits above a record.
+const MOST_SPLITS: usize = 1024;
 
 // Stamps a value on the two cells of each pair of the path that is set apart, by the classes of its lots.
 fn stamp(table: &mut [u8], path: &[u32], depth: usize, map: Classes, value: u8)
@@ -124,4 +130,70 @@ fn after_ground(path: &mut [u32], depth: usize, r: u32, last: bool) -> Step
     }
     path::turn(path, top);
     Step::On(top)
+}
+
+// Whether a lot is one of a sheet's n.
+fn in_lots(n: u16, lot: Lot) -> bool
+    ensures { λ r. ⌜ r ≡ lotInRange n (lot .0) ⌝ }
+{
+    1 <= lot.0 && lot.0 <= n
+}
+
+// A split at record r: its lots, how many splits stand above it, and the path with it on top.
+fn split_step(
+    path: &mut [u32],
+    depth: usize,
+    n: u16,
+    r: u32,
+    a: Lot,
+    b: Lot,
+    next: NodeNumber,
+) -> Step
+    requires { ⌜ Walkable (now path) depth × (n ≤ mostLots) ⌝ }
+    ensures walk { λ v. ⌜ ((s : List ℕ) → n ≡ lotCount s → (walkRest : ℕ → List Split → Verdict) (rest : List NodeRecord)
+        → walkRecord s walkRest rest r (pathOf (now (path .entry)) depth) (splitRecord (a .0) (b .0) (next .0)) ≡ stepAs walkRest (r + 1) (now (path .exit)) v) ⌝ }
+    ensures path { λ v. ⌜ GoesOn (now (path .exit)) v ⌝ }
+{
+    if !in_lots(n, a) {
+        return Step::Refuses(11, r);
+    }
+    if !in_lots(n, b) {
+        return Step::Refuses(11, r);
+    }
+    if MOST_SPLITS <= depth {
+        return Step::Refuses(15, r);
+    }
+    let split = path::Split {
+        number: NodeNumber(r),
+        next,
+        a,
+        b,
+    };
+    Step::On(path::push(path, depth, split))
+}
+
+// A ground at record r: its condition, the condition's terms under the path, and what follows.
+fn ground_step(
+    sheet: &[u8],
+    m: u16,
+    path: &mut [u32],
+    depth: usize,
+    table: &mut [u8],
+    r: u32,
+    last: bool,
+    c: Condition,
+) -> Step
+    requires { ⌜ Checkable (now sheet) m × Walkable (now path) depth × (r ≤ mostNodes) × Unmarked (now table) ⌝ }
+    ensures walk { λ v. ⌜ ((walkRest : ℕ → List Split → Verdict) (rest : List NodeRecord) → last ≡ noneLeft rest
+        → walkRecord (now (sheet .entry)) walkRest rest r (pathOf (now (path .entry)) depth) (groundRecord (c .0)) ≡ stepAs walkRest (r + 1) (now (path .exit)) v) ⌝ }
+    ensures path { λ v. ⌜ GoesOn (now (path .exit)) v ⌝ }
+    ensures table { λ v. ⌜ Unmarked (now (table .exit)) ⌝ }
+{
+    if c.0 == 0 || m < c.0 {
+        return Step::Refuses(11, r);
+    }
+    if !ground_holds(sheet, m, path, depth, table, c) {
+        return Step::Refuses(12, r);
+    }
+    after_ground(path, depth, r, last)
 }
