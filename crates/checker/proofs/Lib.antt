@@ -1,3 +1,4 @@
 pub mod Marks
 pub mod Grounds
 pub mod Stepping
+pub mod Walking

@@ -11,15 +11,22 @@ use Rattle.path.specs.Paths.{splitLength, pathOf, PathWithin}
 use Rattle.checker.specs.declared.Step.{Step}
 use Rattle.checker.specs.declared.Step.the-variants.{On, Passes, Refuses}
 
+-- The records that are left, and the walk over them, from a record's number and the splits above it.
+abbrev pub Rest : Type 0
+Rest = List NodeRecord
+
+abbrev pub WalkRest : Type 0
+WalkRest = ℕ → List Split → verdicts.Verdict
+
 -- What a step makes of the walk, whose rest is `walkRest`: it goes on at the following record with so many splits above it, the list passes, or a check
 -- refuses.
-abbrev pub stepAs : (ℕ → List Split → verdicts.Verdict) → ℕ → List ℕ → Step → verdicts.Verdict
+abbrev pub stepAs : WalkRest → ℕ → List ℕ → Step → verdicts.Verdict
 stepAs walkRest following path (On depth) = walkRest following (pathOf path depth)
 stepAs walkRest following path Passes = verdict.Passes
 stepAs walkRest following path (Refuses check place) = verdict.Refuses check place
 
 -- No record is left.
-abbrev pub noneLeft : List NodeRecord → Bool
+abbrev pub noneLeft : Rest → Bool
 noneLeft [] = true
 noneLeft (r ∷ rest) = false
 

@@ -9,17 +9,18 @@ ghost use Rattle.sheet.specs.Checks.{lotInRange};
 ghost use Rattle.sheet.specs.Conditions.{termsFrom};
 ghost use Rattle.equality.specs.Meaning.{someTerm};
 ghost use mathlib.Core.List.{List};
-ghost use Rattle.sheet.specs.declared.Verdict.{Verdict};
-ghost use Rattle.store.specs.Records.{NodeRecord, splitRecord, groundRecord, mostNodes};
-ghost use Rattle.refutation.specs.Refutation.{Split, decisionsOf, groundFails, nearest, afterGround, named, walkRecord};
+ghost use Rattle.store.specs.Records.{splitRecord, groundRecord, recordAt, mostNodes};
+ghost use Rattle.store.specs.Code.{HasPlace};
+ghost use Rattle.refutation.specs.Refutation.{decisionsOf, groundFails, nearest, afterGround, named, walkRecord};
 ghost use Rattle.path.specs.Paths.{pathOf, PathWithin};
-ghost use Rattle.checker.specs.Steps.{stepAs, noneLeft, Walkable, GoesOn};
+ghost use Rattle.checker.specs.Steps.{Rest, WalkRest, stepAs, noneLeft, Walkable, GoesOn};
 ghost use Rattle.checker.specs.Table.{tableLength, Unmarked, stamped, ClassesWithin, mayHold, mayHoldBy, Checkable, Examinable};
 use classes::Classes;
 use sheet::Condition;
 use sheet::Lot;
 use sheet::Record;
 use store::NodeNumber;
+use store::NodeRecord;
 
 // The cells of a row of the table of marks: one for each number that a class can have, 0 included.
 const ROW_LENGTH: usize = 129;
@@ -111,7 +112,7 @@ fn ground_holds(
 // After a ground, at record r: the nearest split still in its same branch is turned, if its next is the following record; with no such split the list must end.
 fn after_ground(path: &mut [u32], depth: usize, r: u32, last: bool) -> Step
     requires { ⌜ Walkable (now path) depth × (r ≤ mostNodes) ⌝ }
-    ensures walk { λ v. ⌜ ((walkRest : ℕ → List Split → Verdict) (rest : List NodeRecord) → last ≡ noneLeft rest
+    ensures walk { λ v. ⌜ ((walkRest : WalkRest) (rest : Rest) → last ≡ noneLeft rest
         → afterGround walkRest rest (r + 1) (nearest (pathOf (now (path .entry)) depth)) ≡ stepAs walkRest (r + 1) (now (path .exit)) v) ⌝ }
     ensures path { λ v. ⌜ GoesOn (now (path .exit)) v ⌝ }
 {
@@ -150,7 +151,7 @@ fn split_step(
     next: NodeNumber,
 ) -> Step
     requires { ⌜ Walkable (now path) depth × (n ≤ mostLots) ⌝ }
-    ensures walk { λ v. ⌜ ((s : List ℕ) → n ≡ lotCount s → (walkRest : ℕ → List Split → Verdict) (rest : List NodeRecord)
+    ensures walk { λ v. ⌜ ((s : List ℕ) → n ≡ lotCount s → (walkRest : WalkRest) (rest : Rest)
         → walkRecord s walkRest rest r (pathOf (now (path .entry)) depth) (splitRecord (a .0) (b .0) (next .0)) ≡ stepAs walkRest (r + 1) (now (path .exit)) v) ⌝ }
     ensures path { λ v. ⌜ GoesOn (now (path .exit)) v ⌝ }
 {
@@ -184,7 +185,7 @@ fn ground_step(
     c: Condition,
 ) -> Step
     requires { ⌜ Checkable (now sheet) m × Walkable (now path) depth × (r ≤ mostNodes) × Unmarked (now table) ⌝ }
-    ensures walk { λ v. ⌜ ((walkRest : ℕ → List Split → Verdict) (rest : List NodeRecord) → last ≡ noneLeft rest
+    ensures walk { λ v. ⌜ ((walkRest : WalkRest) (rest : Rest) → last ≡ noneLeft rest
         → walkRecord (now (sheet .entry)) walkRest rest r (pathOf (now (path .entry)) depth) (groundRecord (c .0)) ≡ stepAs walkRest (r + 1) (now (path .exit)) v) ⌝ }
     ensures path { λ v. ⌜ GoesOn (now (path .exit)) v ⌝ }
     ensures table { λ v. ⌜ Unmarked (now (table .exit)) ⌝ }
@@ -196,4 +197,31 @@ fn ground_step(
         return Step::Refuses(12, r);
     }
     after_ground(path, depth, r, last)
+}
+
+// Record r of the list, whichever it is.
+fn record_step(
+    sheet: &[u8],
+    n: u16,
+    m: u16,
+    list: &[u8],
+    path: &mut [u32],
+    depth: usize,
+    table: &mut [u8],
+    r: u32,
+    last: bool,
+) -> Step
+    requires { ⌜ Checkable (now sheet) m × (n ≡ lotCount (now sheet)) × HasPlace (now list) r × Walkable (now path) depth × (r ≤ mostNodes) × Unmarked (now table) ⌝ }
+    ensures walk { λ v. ⌜ ((walkRest : WalkRest) (rest : Rest) → last ≡ noneLeft rest
+        → walkRecord (now (sheet .entry)) walkRest rest r (pathOf (now (path .entry)) depth) (recordAt (now (list .entry)) r) ≡ stepAs walkRest (r + 1) (now (path .exit)) v) ⌝ }
+    ensures path { λ v. ⌜ GoesOn (now (path .exit)) v ⌝ }
+    ensures table { λ v. ⌜ Unmarked (now (table .exit)) ⌝ }
+{
+    let node = store::read(list, NodeNumber(r));
+    match node {
+        NodeRecord::Split(a, b, next) => split_step(path, depth, n, r, a, b, next),
+        NodeRecord::Ground(c) => ground_step(sheet, m, path, depth, table, r, last, c),
+        NodeRecord::Met => Step::Refuses(11, r),
+        NodeRecord::Other => Step::Refuses(11, r),
+    }
 }
