@@ -1,7 +1,7 @@
 // The refutation checker: whether a list of records, from any hand, refutes a sheet.
 ghost use mathlib.Core.Path.{_≡_};
 ghost use mathlib.Core.Bool.{not};
-ghost use Prim.Native.Nat.{ℕ, _+_, _≤_};
+ghost use Prim.Native.Nat.{ℕ, _+_, _/_, _≤_};
 ghost use lib.Dec.{eqb};
 ghost use lib.ListN.{length};
 ghost use Rattle.sheet.specs.Format.{mostLots, lotCount, recordCount};
@@ -9,9 +9,9 @@ ghost use Rattle.sheet.specs.Checks.{lotInRange};
 ghost use Rattle.sheet.specs.Conditions.{termsFrom};
 ghost use Rattle.equality.specs.Meaning.{someTerm};
 ghost use mathlib.Core.List.{List};
-ghost use Rattle.store.specs.Records.{splitRecord, groundRecord, recordAt, mostNodes};
+ghost use Rattle.store.specs.Records.{splitRecord, groundRecord, recordAt, recordLength, mostNodes};
 ghost use Rattle.store.specs.Code.{HasPlace};
-ghost use Rattle.refutation.specs.Refutation.{decisionsOf, groundFails, nearest, afterGround, named, walkRecord};
+ghost use Rattle.refutation.specs.Refutation.{decisionsOf, groundFails, nearest, afterGround, named, walkRecord, walkVerdict};
 ghost use Rattle.path.specs.Paths.{pathOf, PathWithin};
 ghost use Rattle.checker.specs.Steps.{Rest, WalkRest, stepAs, noneLeft, Walkable, GoesOn};
 ghost use Rattle.checker.specs.Table.{tableLength, Unmarked, stamped, ClassesWithin, mayHold, mayHoldBy, Checkable, Examinable};
@@ -19,6 +19,7 @@ use classes::Classes;
 use sheet::Condition;
 use sheet::Lot;
 use sheet::Record;
+use sheet::Verdict;
 use store::NodeNumber;
 use store::NodeRecord;
 
@@ -224,4 +225,26 @@ fn record_step(
         NodeRecord::Met => Step::Refuses(11, r),
         NodeRecord::Other => Step::Refuses(11, r),
     }
+}
+
+// The walk over the list, from record 1.
+fn walk(sheet: &[u8], n: u16, m: u16, list: &[u8], path: &mut [u32], table: &mut [u8]) -> Verdict
+    requires { ⌜ Checkable (now sheet) m × (n ≡ lotCount (now sheet)) × (length (now list) / recordLength ≤ mostNodes) × Walkable (now path) 0 × Unmarked (now table) ⌝ }
+    ensures { λ v. ⌜ v ≡ walkVerdict (now (sheet .entry)) (now (list .entry)) ⌝ }
+{
+    let count = (list.len() / store::RECORD_LENGTH) as u32;
+    let mut depth: usize = 0;
+    let mut r: u32 = 1;
+    while r <= count {
+        let step = record_step(sheet, n, m, list, path, depth, table, r, r == count);
+        match step {
+            Step::Passes => return Verdict::Passes,
+            Step::Refuses(check, place) => return Verdict::Refuses(check, place),
+            Step::On(splits) => {
+                depth = splits;
+            }
+        }
+        r += 1;
+    }
+    Verdict::Refuses(14, r)
 }
