@@ -1,5 +1,5 @@
 -- The table says which classes are marked apart, and stamping it with 0 leaves it as it was before.
-use Prim.Native.Nat.{ℕ, _+_, _*_, _/_, _%_, _≤_, _<_}
+use Prim.Native.Nat.{ℕ, zero, suc, _+_, _*_, _/_, _%_, _≤_, _<_}
 use mathlib.Core.Bool.{Bool, true, false, cond, _&&_, _||_}
 use mathlib.Core.List.{List, [], _∷_}
 use mathlib.Core.Path.{_≡_, refl, sym, ap, _∙_}
@@ -152,3 +152,9 @@ module _ (value : ℕ) (cs l table : List ℕ) (i : ℕ) (pair : Pair) (e : deci
       ≡ stampClasses value (classOf cs (pair .a .0)) (classOf cs (pair .b .0)) (stamped value cs (decisionsOf (pathOf l i)) table)
   unfolding stamped
   apart-stamps q = with-split (apart (pair .a .0) (pair .b .0)) (simp q)
+
+-- Zeros are zeros.
+pub zeros : (n i : ℕ) → i < n → getD (replicate {A = ℕ} n 0) i 0 ≡ 0
+zeros zero i h = absurd (omega arith)
+zeros (suc n) zero h = refl
+zeros (suc n) (suc i) h = zeros n i (omega arith)

@@ -26,6 +26,17 @@ use store::NodeRecord;
 // The cells of a row of the table of marks: one for each number that a class can have, 0 included.
 const ROW_LENGTH: usize = 129;
 
+// The numbers of the longest path, and the cells of the table.
+const PATH_LENGTH: usize = 5120;
+
+const TABLE_LENGTH: usize = 16641;
+
+// The checker's answer.
+pub enum CheckAnswer {
+    Passed,
+    Refused { check: u32, place: u32 },
+}
+
 // What a record leaves to the walk: it goes on with so many splits above the following record, the list passes, or a check refuses.
 pub enum Step {
     On(usize),
@@ -247,4 +258,14 @@ fn walk(sheet: &[u8], n: u16, m: u16, list: &[u8], path: &mut [u32], table: &mut
         r += 1;
     }
     Verdict::Refuses(14, r)
+}
+
+// The verdict on a list, with a path and a table of its own.
+fn check_list(sheet: &[u8], n: u16, m: u16, list: &[u8]) -> Verdict
+    requires { ⌜ Checkable (now sheet) m × (n ≡ lotCount (now sheet)) × (length (now list) / recordLength ≤ mostNodes) ⌝ }
+    ensures { λ v. ⌜ v ≡ walkVerdict (now (sheet .entry)) (now (list .entry)) ⌝ }
+{
+    let mut path = [0u32; PATH_LENGTH];
+    let mut table = [0u8; TABLE_LENGTH];
+    walk(sheet, n, m, list, &mut path, &mut table)
 }
