@@ -2,3 +2,4 @@ pub mod Marks
 pub mod Grounds
 pub mod Stepping
 pub mod Walking
+pub mod Entry

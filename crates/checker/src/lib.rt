@@ -1,8 +1,8 @@
 // The refutation checker: whether a list of records, from any hand, refutes a sheet.
 ghost use mathlib.Core.Path.{_≡_};
-ghost use mathlib.Core.Bool.{not};
-ghost use Prim.Native.Nat.{ℕ, _+_, _/_, _≤_};
-ghost use lib.Dec.{eqb};
+ghost use mathlib.Core.Bool.{not, _||_};
+ghost use Prim.Native.Nat.{ℕ, _+_, _/_, _%_, _≤_};
+ghost use lib.Dec.{ltb, eqb};
 ghost use lib.ListN.{length};
 ghost use Rattle.sheet.specs.Format.{mostLots, lotCount, recordCount};
 ghost use Rattle.sheet.specs.Checks.{lotInRange};
@@ -11,13 +11,15 @@ ghost use Rattle.equality.specs.Meaning.{someTerm};
 ghost use mathlib.Core.List.{List};
 ghost use Rattle.store.specs.Records.{splitRecord, groundRecord, recordAt, recordLength, mostNodes};
 ghost use Rattle.store.specs.Code.{HasPlace};
-ghost use Rattle.refutation.specs.Refutation.{decisionsOf, groundFails, nearest, afterGround, named, walkRecord, walkVerdict};
+ghost use Rattle.refutation.specs.Refutation.{decisionsOf, groundFails, nearest, afterGround, named, walkRecord, walkVerdict, checkAnswer};
 ghost use Rattle.path.specs.Paths.{pathOf, PathWithin};
+ghost use Rattle.checker.specs.Answers.{checkedAnswer, PassedExactly, PassedMeans};
 ghost use Rattle.checker.specs.Steps.{Rest, WalkRest, stepAs, noneLeft, Walkable, GoesOn};
 ghost use Rattle.checker.specs.Table.{tableLength, Unmarked, stamped, ClassesWithin, mayHold, mayHoldBy, Checkable, Examinable};
 use classes::Classes;
 use sheet::Condition;
 use sheet::Lot;
+use sheet::Reading;
 use sheet::Record;
 use sheet::Verdict;
 use store::NodeNumber;
@@ -268,4 +270,47 @@ fn check_list(sheet: &[u8], n: u16, m: u16, list: &[u8]) -> Verdict
     let mut path = [0u32; PATH_LENGTH];
     let mut table = [0u8; TABLE_LENGTH];
     walk(sheet, n, m, list, &mut path, &mut table)
+}
+
+// Whether a list's length is none that a list of records can have.
+fn ill_sized(list: &[u8]) -> bool
+    ensures { λ r. ⌜ r ≡ (eqb (length (now (list .entry))) 0 || not (eqb (length (now (list .entry)) % recordLength) 0) || ltb mostNodes (length (now (list .entry)) / recordLength)) ⌝ }
+{
+    let length = list.len();
+    if length == 0 {
+        return true;
+    }
+    if length % store::RECORD_LENGTH != 0 {
+        return true;
+    }
+    store::MOST_NODES < length / store::RECORD_LENGTH
+}
+
+// The refutation checker, for any bytes at all and a list from any hand: the first check that fails, or the list passes, and then nobody can meet the sheet.
+pub fn check(sheet: &[u8], list: &[u8]) -> CheckAnswer
+    ensures answer { λ r. ⌜ checkedAnswer r ≡ checkAnswer (now (sheet .entry)) (now (list .entry)) ⌝ }
+    ensures passed { λ r. ⌜ PassedExactly r (now (sheet .entry)) (now (list .entry)) ⌝ }
+    ensures meaning { λ r. ⌜ PassedMeans r (now (sheet .entry)) ⌝ }
+{
+    let reading = sheet::read(sheet);
+    match reading {
+        Reading::Refused { check, place } => CheckAnswer::Refused { check, place },
+        Reading::Accepted {
+            lots,
+            conditions,
+            terms: _,
+        } => {
+            if ill_sized(list) {
+                return CheckAnswer::Refused {
+                    check: 10,
+                    place: 0,
+                };
+            }
+            let verdict = check_list(sheet, lots, conditions, list);
+            match verdict {
+                Verdict::Passes => CheckAnswer::Passed,
+                Verdict::Refuses(check, place) => CheckAnswer::Refused { check, place },
+            }
+        }
+    }
 }

@@ -1,6 +1,6 @@
 -- `checker::all_false`: every term that the loop has passed is false by the classes and the table; it leaves at the first that isn't.
 use borrow.Author.Needs.{needs}
-use Prim.Native.Nat.{ℕ, _≤_}
+use Prim.Native.Nat.{_≤_}
 use mathlib.Core.Bool.{not}
 use mathlib.Core.Path.{_≡_, sym, ap, _∙_}
 use native.Mathlib.Omega.{arith}
