@@ -2,7 +2,7 @@
 use mathlib.Core.Bool.{Bool, true, false, _||_, or-true, false≢true}
 use mathlib.Core.List.{List, [], _∷_, _++_}
 use mathlib.Core.Logic.{⊎-elim}
-use mathlib.Core.Path.{_≡_, refl, sym, ap, fun-ext}
+use mathlib.Core.Path.{_≡_, refl, sym, ap, ap₂, fun-ext}
 use lib.Dec.{T}
 use Rattle.sheet.specs.Conditions.{Term}
 use Rattle.sheet.proofs.Ranges.{All}
@@ -51,7 +51,18 @@ module _ (p : Term → Bool) where
   some-here [] t after e = rw e
   some-here (u ∷ before) t after e = rw (any-here before t after e) (or-true (p u))
 
-  -- Two tests that agree at each term agree on the condition.
+  -- Two tests that agree at each term of a condition agree on the condition;
+  any-agree : (q : Term → Bool) (ts : List Term) → All (λ t. p t ≡ q t) ts → anyTerm p ts ≡ anyTerm q ts
+  unfolding anyTerm
+  any-agree q [] each = refl
+  any-agree q (t ∷ ts) each = ap₂ _||_ (each .0) (any-agree q ts (each .1))
+
+  pub some-agree : (q : Term → Bool) (ts : List Term) → All (λ t. p t ≡ q t) ts → someTerm p ts ≡ someTerm q ts
+  unfolding someTerm
+  some-agree q [] each = refl
+  some-agree q (t ∷ ts) each = ap₂ _||_ (each .0) (any-agree q ts (each .1))
+
+  -- and two that agree at every term agree on every condition.
   pub some-agrees : (q : Term → Bool) → ((t : Term) → p t ≡ q t) → (ts : List Term) → someTerm p ts ≡ someTerm q ts
   some-agrees q each ts = ap (λ (r : Term → Bool). someTerm r ts) (fun-ext each)
 

@@ -30,7 +30,7 @@ refuses-passes e = let z : _≡_ {A = ℕ} 0 1 = cc in omega arith
 
 -- ---- elements by their places
 
-all-nth : {A : Type 0} (P : A → Type 0) (xs : List A) (d : A) → All P xs → (i : ℕ) → i < length xs → P (getD xs i d)
+pub all-nth : {A : Type 0} (P : A → Type 0) (xs : List A) (d : A) → All P xs → (i : ℕ) → i < length xs → P (getD xs i d)
 all-nth P [] d h i lt = absurd (omega arith)
 all-nth P (x ∷ xs) d h zero lt = h .0
 all-nth P (x ∷ xs) d h (suc i) lt = all-nth P xs d (h .1) i (omega arith)

@@ -14,7 +14,7 @@ use sheet::Lot;
 pub const RECORD_LENGTH: usize = 8;
 
 // The most node records that a store has.
-const MOST_NODES: usize = 65535;
+pub const MOST_NODES: usize = 65535;
 
 // The number of a node record, from 1; zero stands for none. Term records (sheet::Record) have numbers of their own.
 pub struct NodeNumber(pub u32);

@@ -15,7 +15,7 @@ use Rattle.evaluator.proofs.is_met.Statement.{statement}
 use Rattle.evaluator.proofs.is_met.Tie as tie
 
 abbrev Inv-loop : tie.InvT-loop
-Inv-loop sheet m grouping at₀ at = Passing (numberIn grouping) sheet (at₀ .0) (at .0)
+Inv-loop sheet m grouping at₀ at = Passing (holds (numberIn grouping)) sheet (at₀ .0) (at .0)
 
 abbrev μ-loop : tie.MeasureT-loop
 μ-loop sheet m grouping at₀ at = length (recordsFrom sheet (at .0))
@@ -55,7 +55,7 @@ returns c =
     let h = c .before .before .before .before .before in
     let start = h .before .before .before in
     sym
-    (found (numberIn (start .args .grouping .now)) (start .args .sheet .now) (start .pre .0 .accepted) (start .args .head .0) (h .loop .at .0) (h .loop .inv)
+    (found (holds (numberIn (start .args .grouping .now))) (start .args .sheet .now) (start .pre .0 .accepted) (start .args .head .0) (h .loop .at .0) (h .loop .inv)
     (record-number (c .before .before .before))
     (sym (answer (c .before)) ∙ c .if2 .taken))
 
@@ -71,7 +71,7 @@ loop-again c =
     let h = c .before .before .before .before .before .before in
     let start = h .before .before .before in
     rw (c .before .before .before .term-at .ensures)
-    (passing-next (numberIn (start .args .grouping .now)) (start .args .sheet .now) (start .pre .0 .accepted) (start .args .head .0) (h .loop .at .0) (h .loop .inv)
+    (passing-next (holds (numberIn (start .args .grouping .now))) (start .args .sheet .now) (start .pre .0 .accepted) (start .args .head .0) (h .loop .at .0) (h .loop .inv)
     (record-number (c .before .before .before .before))
     (sym (answer (c .before .before)) ∙ c .before .if2 .left))
 
@@ -80,7 +80,7 @@ returns-2 c =
     let h = c .before .before in
     let start = h .before .before .before in
     sym
-    (ended (numberIn (start .args .grouping .now)) (start .args .sheet .now) (start .pre .0 .accepted) (start .args .head .0) (h .loop .at .0) (h .loop .inv) (c .if1 .left))
+    (ended (holds (numberIn (start .args .grouping .now))) (start .args .sheet .now) (start .pre .0 .accepted) (start .args .head .0) (h .loop .at .0) (h .loop .inv) (c .if1 .left))
 
 pub is-met-spec : {M : Type 1} → statement M
 is-met-spec =

@@ -20,7 +20,7 @@ use Rattle.node.proofs.scan.Statement.{statement}
 use Rattle.node.proofs.scan.Tie as tie
 
 abbrev Inv-terms : tie.InvT-terms
-Inv-terms sheet m lots c at₀ at = Passing (classOf lots) sheet (at₀ .0) (at .0)
+Inv-terms sheet m lots c at₀ at = Passing (holds (classOf lots)) sheet (at₀ .0) (at .0)
 
 abbrev μ-terms : tie.MeasureT-terms
 μ-terms sheet m lots c at₀ at = length (recordsFrom sheet (at .0))
@@ -109,7 +109,7 @@ conditions-again c =
     let f = classOf (start .args .map .lots) in
     let s = start .args .sheet .now in
     let head = d .before .before .before in
-    let met = found f s (start .pre .accepted) (head .head-at .result .0) (d .before .before .terms .at .0) (d .before .before .terms .inv) (record-number d) (flag (c .before .before .before .before) ∙ c .if3 .taken) in
+    let met = found (holds f) s (start .pre .accepted) (head .head-at .result .0) (d .before .before .terms .at .0) (d .before .before .terms .inv) (record-number d) (flag (c .before .before .before .before) ∙ c .if3 .taken) in
     rw add-one
     (scanning-next f s (head .before .before .conditions .c) (head .before .before .conditions .inv) (numbered (head .before))
     (ap (λ (r : ℕ). meetsCondition f (termsFrom s r)) (sym (head-of head)) ∙ met))
@@ -124,7 +124,7 @@ terms-again : tie.Need-terms-again Inv-terms μ-terms Inv-conditions μ-conditio
 terms-again c =
     let d = c .before .before .before .before .before .before in
     rw (c .before .before .before .before .before .term-at .ensures)
-    (passing-next (classOf (d .before .before .before .before .before .before .before .before .args .map .lots)) (d .before .before .before .before .before .before .before .before .args .sheet .now) (d .before .before .before .before .before .before .before .before .pre .accepted) (d .before .before .before .head-at .result .0) (d .before .before .terms .at .0) (d .before .before .terms .inv)
+    (passing-next (holds (classOf (d .before .before .before .before .before .before .before .before .args .map .lots))) (d .before .before .before .before .before .before .before .before .args .sheet .now) (d .before .before .before .before .before .before .before .before .pre .accepted) (d .before .before .before .head-at .result .0) (d .before .before .terms .at .0) (d .before .before .terms .inv)
     (record-number d)
     (flag (c .before .before .before .before .before) ∙ c .before .if3 .left))
 
@@ -142,7 +142,7 @@ returns-2 c =
     let f = classOf (start .args .map .lots) in
     let s = start .args .sheet .now in
     let head = c .before .before .before in
-    let unmet = ended f s (start .pre .accepted) (head .head-at .result .0) (c .before .before .terms .at .0) (c .before .before .terms .inv) (c .if2 .taken) in
+    let unmet = ended (holds f) s (start .pre .accepted) (head .head-at .result .0) (c .before .before .terms .at .0) (c .before .before .terms .inv) (c .if2 .taken) in
     let below = numbered (head .before) in (
       rw add-one
           (taken-by-map (start .args .map .lots) (conditions s)

@@ -1,0 +1,5 @@
+pub mod Marks
+pub mod Grounds
+pub mod Stepping
+pub mod Walking
+pub mod Entry

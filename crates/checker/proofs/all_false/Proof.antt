@@ -1,0 +1,122 @@
+-- `checker::all_false`: every term that the loop has passed is false by the classes and the table; it leaves at the first that isn't.
+use borrow.Author.Needs.{needs}
+use Prim.Native.Nat.{_≤_}
+use mathlib.Core.Bool.{not}
+use mathlib.Core.Path.{_≡_, sym, ap, _∙_}
+use native.Mathlib.Omega.{arith}
+use lib.Dec.{eqb}
+use lib.ListN.{length}
+use Rattle.sheet.specs.declared.Term.{Term}
+use Rattle.sheet.specs.Format.{mostLots, signAt, firstLotAt, secondLotAt}
+use Rattle.sheet.specs.Conditions.{termAt, recordsFrom}
+use Rattle.sheet.proofs.Accepted.{SoundRecord, sound, has-record}
+use Rattle.sheet.proofs.ChainEnds.{rest-shorter}
+use Rattle.equality.specs.Node.{classOf}
+use Rattle.equality.proofs.Passing.{Passing, passing-start, found, passing-next, ended}
+use Rattle.checker.specs.Table.{mayHold, mayHoldBy}
+use Rattle.checker.proofs.Marks.{may-hold-term}
+use Rattle.checker.proofs.all_false.Statement.{statement}
+use Rattle.checker.proofs.all_false.Tie as tie
+
+abbrev Inv-loop : tie.InvT-loop
+Inv-loop sheet m table lots at₀ at = Passing (mayHold lots table) sheet (at₀ .0) (at .0)
+
+abbrev μ-loop : tie.MeasureT-loop
+μ-loop sheet m table lots at₀ at = length (recordsFrom sheet (at .0))
+
+loop-holds : tie.Need-loop-holds Inv-loop μ-loop
+loop-holds c = passing-start (mayHold _ _) _ _ (c .before .before .before .pre .2)
+
+-- In a turn: the record is one of the sheet's,
+record-number : (c : tie.Then1 Inv-loop μ-loop) → 1 ≤ c .before .before .loop .at .0
+record-number c = omega (arith, c .if1 .taken)
+
+fields : (c : tie.Then1 Inv-loop μ-loop) → SoundRecord (c .before .before .before .before .before .before .args .sheet .now) (c .before .before .loop .at .0)
+fields c = sound (c .before .before .before .before .before .before .args .sheet .now) (c .before .before .before .before .before .before .pre .0 .accepted) .records (c .before .before .loop .at .0) (record-number c) (c .before .before .loop .inv .within)
+
+-- and its lots have entries in the map.
+first-entry : (c : tie.After-term-at Inv-loop μ-loop) → c .term-at .result .a .0 ≤ mostLots
+first-entry c =
+    let start = c .before .before .before .before .before .before .before in
+    rw (c .term-at .ensures) (omega (arith, fields (c .before) .first .high, sound (start .args .sheet .now) (start .pre .0 .accepted) .header .lots))
+
+second-entry : (c : tie.After-term-at Inv-loop μ-loop) → c .term-at .result .b .0 ≤ mostLots
+second-entry c =
+    let start = c .before .before .before .before .before .before .before in
+    rw (c .term-at .ensures) (omega (arith, fields (c .before) .second .high, sound (start .args .sheet .now) (start .pre .0 .accepted) .header .lots))
+
+term-at-requires : tie.Need-term-at-requires Inv-loop μ-loop
+term-at-requires c κs = let start = c .before .before .before .before .before .before in
+    let can = start .pre .0 in
+    rw (can .counted) (has-record (sound (start .args .sheet .now) (can .accepted) .header) (c .before .before .loop .at .0) (record-number c) (c .before .before .loop .inv .within))
+
+cast-a : tie.Need-cast-a Inv-loop μ-loop
+cast-a c = search needs
+
+cast-b : tie.Need-cast-b Inv-loop μ-loop
+cast-b c = search needs
+
+array-read-may-hold : tie.Need-array-read-may-hold Inv-loop μ-loop
+array-read-may-hold c = omega (arith, first-entry (c .before .before))
+
+array-read-may-hold-2 : tie.Need-array-read-may-hold-2 Inv-loop μ-loop
+array-read-may-hold-2 c = omega (arith, second-entry (c .before .before))
+
+may-hold-requires : tie.Need-may-hold-requires Inv-loop μ-loop
+may-hold-requires c κs = let can = c .before .before .before .before .before .before .before .before .before .pre .1 in
+    (can .size, can .within _ (first-entry (c .before .before)), can .within _ (second-entry (c .before .before)))
+
+-- What `may_hold` answers is whether the record's term is true or open.
+answer : (c : tie.After-may-hold Inv-loop μ-loop)
+    → mayHold (c .before .before .before .before .before .before .before .before .before .before .args .map .lots) (c .before .before .before .before .before .before .before .before .before .before .args .table .now) (termAt (c .before .before .before .before .before .before .before .before .before .before .args .sheet .now) (c .before .before .before .before .before .before .loop .at .0)) ≡ c .may-hold .result
+answer c =
+    let start = c .before .before .before .before .before .before .before .before .before .before in
+    let s = start .args .sheet .now in
+    let r = c .before .before .before .before .before .before .loop .at .0 in
+    may-hold-term (start .args .map .lots) (start .args .table .now) (signAt s r) (firstLotAt s r) (secondLotAt s r)
+    ∙ ap (λ (t : Term). mayHoldBy (start .args .table .now) (eqb (t .sign) 1) (classOf (start .args .map .lots) (t .a .0)) (classOf (start .args .map .lots) (t .b .0))) (sym (c .before .before .before .term-at .ensures))
+    ∙ sym (c .may-hold .ensures)
+
+returns : tie.Need-returns Inv-loop μ-loop
+returns c = let start = c .before .before .before .before .before .before .before .before .before .before .before in
+    ap not
+    (sym
+    (found (mayHold (start .args .map .lots) (start .args .table .now)) (start .args .sheet .now) (start .pre .0 .accepted) (start .args .head .0) (c .before .before .before .before .before .before .before .loop .at .0) (c .before .before .before .before .before .before .before .loop .inv)
+    (record-number (c .before .before .before .before .before))
+    (answer (c .before) ∙ c .if2 .taken)))
+
+loop-less : tie.Need-loop-less Inv-loop μ-loop
+loop-less c = let start = c .before .before .before .before .before .before .before .before .before .before .before .before in
+    rw (c .before .before .before .before .before .term-at .ensures)
+    (rest-shorter (start .args .sheet .now) (start .pre .0 .accepted) (c .before .before .before .before .before .before .before .before .loop .at .0) (record-number (c .before .before .before .before .before .before)) (c .before .before .before .before .before .before .before .before .loop .inv .within))
+
+loop-again : tie.Need-loop-again Inv-loop μ-loop
+loop-again c = let start = c .before .before .before .before .before .before .before .before .before .before .before .before in
+    rw (c .before .before .before .before .before .term-at .ensures)
+    (passing-next (mayHold (start .args .map .lots) (start .args .table .now)) (start .args .sheet .now) (start .pre .0 .accepted) (start .args .head .0) (c .before .before .before .before .before .before .before .before .loop .at .0) (c .before .before .before .before .before .before .before .before .loop .inv)
+    (record-number (c .before .before .before .before .before .before))
+    (answer (c .before .before) ∙ c .before .if2 .left))
+
+returns-2 : tie.Need-returns-2 Inv-loop μ-loop
+returns-2 c = let start = c .before .before .before .before .before .before in
+    ap not
+    (sym
+    (ended (mayHold (start .args .map .lots) (start .args .table .now)) (start .args .sheet .now) (start .pre .0 .accepted) (start .args .head .0) (c .before .before .loop .at .0) (c .before .before .loop .inv) (c .if1 .left)))
+
+pub all-false-spec : {M : Type 1} → statement M
+all-false-spec =
+    tie.close
+    (tie.spec
+    Inv-loop
+    μ-loop
+    loop-holds
+    term-at-requires
+    cast-a
+    cast-b
+    array-read-may-hold
+    array-read-may-hold-2
+    may-hold-requires
+    returns
+    loop-less
+    loop-again
+    returns-2)

@@ -1,0 +1,131 @@
+-- `checker::stamp`: after i turns the cells of the first i splits are stamped.
+use borrow.Author.Needs.{needs}
+use borrow.Author.Tests.{not-true, not-false}
+use Prim.Native.Nat.{_+_, _-_, _≤_}
+use mathlib.Core.Logic.{⊎-elim}
+use mathlib.Core.Path.{_≡_, sym, ap, _∙_}
+use native.Mathlib.Omega.{arith}
+use lib.ListN.{length, length-set}
+use Rattle.refutation.specs.Refutation.{decisionsOf}
+use Rattle.path.specs.Paths.{pathOf}
+use Rattle.path.proofs.Within.{within-less}
+use Rattle.sheet.specs.Format.{mostLots}
+use Rattle.equality.specs.Node.{classOf}
+use Rattle.checker.specs.Table.{tableLength, stampClasses, stamped}
+use Rattle.checker.proofs.Marks.{stamped-none, same-stamps, apart-stamps}
+use Rattle.checker.proofs.stamp.Statement.{statement}
+use Rattle.checker.proofs.stamp.Tie as tie
+
+abbrev Inv-loop : tie.InvT-loop
+Inv-loop table₀ path depth value lots i₀ table i =
+    (i ≤ depth) × (length table ≡ tableLength) × (table ≡ stamped value lots (decisionsOf (pathOf path i)) table₀)
+
+abbrev μ-loop : tie.MeasureT-loop
+μ-loop table₀ path depth value lots i₀ table i = depth - i
+
+loop-holds : tie.Need-loop-holds Inv-loop μ-loop
+loop-holds c = (omega arith, c .before .before .before .pre .0, stamped-none _ _ _ _)
+
+pair-at-requires : tie.Need-pair-at-requires Inv-loop μ-loop
+pair-at-requires c κs = within-less (c .before .before .before .before .before .pre .1) (c .before .loop .i + 1) (omega arith)
+
+cast-a : tie.Need-cast-a Inv-loop μ-loop
+cast-a c = search needs
+
+cast-b : tie.Need-cast-b Inv-loop μ-loop
+cast-b c = search needs
+
+-- The classes of a pair's lots are within the table.
+classes-within : (c : tie.After-pair-at Inv-loop μ-loop)
+    → (classOf (c .before .before .before .before .before .before .args .map .lots) (c .pair-at .result .a .0) ≤ mostLots) × (classOf (c .before .before .before .before .before .before .args .map .lots) (c .pair-at .result .b .0) ≤ mostLots)
+classes-within c =
+    let within = c .before .before .before .before .before .before .pre .2 in
+    (within _ (c .pair-at .ensures .1 .0), within _ (c .pair-at .ensures .1 .1))
+
+array-read-x : tie.Need-array-read-x Inv-loop μ-loop
+array-read-x c = omega (arith, c .before .before .before .before .pair-at .ensures .1 .0)
+
+cast-x : tie.Need-cast-x Inv-loop μ-loop
+cast-x c = search needs
+
+array-read-y : tie.Need-array-read-y Inv-loop μ-loop
+array-read-y c = omega (arith, c .before .before .before .before .pair-at .ensures .1 .1)
+
+cast-y : tie.Need-cast-y Inv-loop μ-loop
+cast-y c = search needs
+
+mul-table : tie.Need-mul-table Inv-loop μ-loop
+mul-table c = let h = classes-within (c .before .before .before .before) in record { fits = omega (arith, h .0, h .1) }
+
+add-table : tie.Need-add-table Inv-loop μ-loop
+add-table c = let h = classes-within (c .before .before .before .before) in record { fits = omega (arith, h .0, h .1) }
+
+slice-write-table : tie.Need-slice-write-table Inv-loop μ-loop
+slice-write-table c = let h = classes-within (c .before .before .before .before) in omega (arith, h .0, h .1, c .before .before .before .before .before .before .loop .inv .1)
+
+mul-table-2 : tie.Need-mul-table-2 Inv-loop μ-loop
+mul-table-2 c = let h = classes-within (c .before .before .before .before) in record { fits = omega (arith, h .0, h .1) }
+
+add-table-2 : tie.Need-add-table-2 Inv-loop μ-loop
+add-table-2 c = let h = classes-within (c .before .before .before .before) in record { fits = omega (arith, h .0, h .1) }
+
+slice-write-table-2 : tie.Need-slice-write-table-2 Inv-loop μ-loop
+slice-write-table-2 c = let h = classes-within (c .before .before .before .before) in simp length-set (omega (arith, h .0, h .1, c .before .before .before .before .before .before .loop .inv .1))
+
+add-i : tie.Need-add-i Inv-loop μ-loop
+add-i c = search needs
+
+loop-less : tie.Need-loop-less Inv-loop μ-loop
+loop-less c = search needs
+
+loop-again : tie.Need-loop-again Inv-loop μ-loop
+loop-again c = let h = c .before .before .before .before in
+    let inv = h .loop .inv in
+    let pair = c .before .before .pair-at in
+    let start = h .before .before .before .before in
+    let lots = start .args .map .lots in
+    let path = start .args .path .now in (
+      omega arith,
+      ⊎-elim (λ w. ap length (w .3) ∙ simp length-set (inv .1)) (λ w. ap length (w .1) ∙ inv .1) (c .if1 .came),
+      ⊎-elim
+          (λ w. w .3
+          ∙ ap (stampClasses (start .args .value) (classOf lots (pair .result .a .0)) (classOf lots (pair .result .b .0))) (inv .2)
+          ∙ sym (apart-stamps (start .args .value) lots path (start .args .table .now) (h .loop .i) (pair .result) (pair .ensures .0) (not-true (pair .result .same) (w .0 .taken))))
+          (λ w. w .1 ∙ inv .2 ∙ sym (same-stamps (start .args .value) lots path (start .args .table .now) (h .loop .i) (pair .result) (pair .ensures .0) (not-false (pair .result .same) (w .0 .left))))
+          (c .if1 .came),
+    )
+
+same-length : tie.Need-same-length Inv-loop μ-loop
+same-length c = search needs
+
+returns : tie.Need-returns Inv-loop μ-loop
+returns c =
+    let h = c .before in
+    let done : h .loop .i ≡ h .before .before .before .before .args .depth = omega arith in
+    rw done at (h .loop .inv .2)
+
+pub stamp-spec : {M : Type 1} → statement M
+stamp-spec =
+    tie.close
+    (tie.spec
+    Inv-loop
+    μ-loop
+    loop-holds
+    pair-at-requires
+    cast-a
+    cast-b
+    array-read-x
+    cast-x
+    array-read-y
+    cast-y
+    mul-table
+    add-table
+    slice-write-table
+    mul-table-2
+    add-table-2
+    slice-write-table-2
+    add-i
+    loop-less
+    loop-again
+    same-length
+    returns)

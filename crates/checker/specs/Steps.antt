@@ -1,0 +1,43 @@
+-- The steps of the walk, for the contracts of the code; this file states nothing of document 01.
+use Prim.Native.Nat.{ℕ, _*_, _≤_}
+use mathlib.Core.Bool.{Bool, true, false}
+use mathlib.Core.List.{List, [], _∷_}
+use lib.ListN.{length}
+use Rattle.sheet.specs.declared.Verdict as verdicts
+use Rattle.sheet.specs.declared.Verdict.the-variants as verdict
+use Rattle.store.specs.Records.{NodeRecord}
+use Rattle.refutation.specs.Refutation.{Split, mostSplits}
+use Rattle.path.specs.Paths.{splitLength, pathOf, PathWithin}
+use Rattle.checker.specs.declared.Step.{Step}
+use Rattle.checker.specs.declared.Step.the-variants.{On, Passes, Refuses}
+
+-- The records that are left, and the walk over them, from a record's number and the splits above it.
+abbrev pub Rest : Type 0
+Rest = List NodeRecord
+
+abbrev pub WalkRest : Type 0
+WalkRest = ℕ → List Split → verdicts.Verdict
+
+-- What a step makes of the walk, whose rest is `walkRest`: it goes on at the following record with so many splits above it, the list passes, or a check
+-- refuses.
+abbrev pub stepAs : WalkRest → ℕ → List ℕ → Step → verdicts.Verdict
+stepAs walkRest following path (On depth) = walkRest following (pathOf path depth)
+stepAs walkRest following path Passes = verdict.Passes
+stepAs walkRest following path (Refuses check place) = verdict.Refuses check place
+
+-- No record is left.
+abbrev pub noneLeft : Rest → Bool
+noneLeft [] = true
+noneLeft (r ∷ rest) = false
+
+-- A path of at most so many splits as a list may have, with room for them.
+pub record Walkable (path : List ℕ) (depth : ℕ) : Type 0 where
+  pub within : PathWithin path depth
+  pub deep : depth ≤ mostSplits
+  pub room : splitLength * mostSplits ≤ length path
+
+-- Where the walk goes on, its path is one.
+abbrev pub GoesOn : List ℕ → Step → Type 0
+GoesOn path (On depth) = Walkable path depth
+GoesOn path Passes = Unit {0}
+GoesOn path (Refuses check place) = Unit {0}

@@ -1,0 +1,59 @@
+-- A table of marks: a cell for each two classes. For the contracts of the code; this file states nothing of document 01.
+use Prim.Native.Nat.{ℕ, _+_, _*_, _≤_, _<_}
+use mathlib.Core.Bool.{Bool, true, false, cond, not, _||_}
+use mathlib.Core.List.{List, [], _∷_}
+use mathlib.Core.Path.{_≡_}
+use lib.ListN.{length, getD, set}
+use lib.Dec.{eqb}
+use Rattle.sheet.specs.Format.{mostLots, conditionCount}
+use Rattle.sheet.specs.Checks.{Accepted}
+use Rattle.sheet.specs.Conditions.{Term, same, apart}
+use Rattle.equality.specs.Node.{Decisions, classOf}
+
+-- A row has a cell for each number that a class can have, 0 included; and so many rows has a table.
+abbrev pub rowLength : ℕ
+rowLength = 129
+
+abbrev pub tableLength : ℕ
+tableLength = 16641
+
+abbrev pub cell : ℕ → ℕ → ℕ
+cell x y = rowLength * x + y
+
+-- Nothing is marked in a table.
+pub record Unmarked (table : List ℕ) : Type 0 where
+  pub size : length table ≡ tableLength
+  pub zeros : (i : ℕ) → i < tableLength → getD table i 0 ≡ 0
+
+-- The two cells of two classes, one for each order, get a value;
+abbrev pub stampClasses : ℕ → ℕ → ℕ → List ℕ → List ℕ
+stampClasses value x y table = set (set table (cell x y) value) (cell y x) value
+
+-- and so do those of each pair that is set apart, by the classes of its lots.
+unfoldable pub stamped : ℕ → List ℕ → Decisions → List ℕ → List ℕ
+stamped value cs [] table = table
+stamped value cs (same a b ∷ ds) table = stamped value cs ds table
+stamped value cs (apart a b ∷ ds) table = stampClasses value (classOf cs a) (classOf cs b) (stamped value cs ds table)
+
+-- Each lot's class is a lot.
+abbrev pub ClassesWithin : List ℕ → Type 0
+ClassesWithin cs = (lot : ℕ) → lot ≤ mostLots → classOf cs lot ≤ mostLots
+
+-- A term is not false, by the classes x and y of its lots and a table of marks: a "same" term whose lots share a class or whose classes are not marked, an
+-- "apart" term whose lots share none.
+abbrev pub mayHoldBy : List ℕ → Bool → ℕ → ℕ → Bool
+mayHoldBy table isSame x y = cond isSame (eqb x y || not (eqb (getD table (cell x y) 0) 1)) (not (eqb x y))
+
+abbrev pub mayHold : List ℕ → List ℕ → Term → Bool
+mayHold cs table (same a b) = mayHoldBy table true (classOf cs a) (classOf cs b)
+mayHold cs table (apart a b) = mayHoldBy table false (classOf cs a) (classOf cs b)
+
+-- The classes are of lots, and the table has its size.
+pub record Examinable (cs table : List ℕ) : Type 0 where
+  pub within : ClassesWithin cs
+  pub size : length table ≡ tableLength
+
+-- The sheet is accepted, and has m conditions.
+pub record Checkable (s : List ℕ) (m : ℕ) : Type 0 where
+  pub accepted : Accepted s
+  pub counted : m ≡ conditionCount s

@@ -1,0 +1,316 @@
+// The refutation checker: whether a list of records, from any hand, refutes a sheet.
+ghost use mathlib.Core.Path.{_≡_};
+ghost use mathlib.Core.Bool.{not, _||_};
+ghost use Prim.Native.Nat.{ℕ, _+_, _/_, _%_, _≤_};
+ghost use lib.Dec.{ltb, eqb};
+ghost use lib.ListN.{length};
+ghost use Rattle.sheet.specs.Format.{mostLots, lotCount, recordCount};
+ghost use Rattle.sheet.specs.Checks.{lotInRange};
+ghost use Rattle.sheet.specs.Conditions.{termsFrom};
+ghost use Rattle.equality.specs.Meaning.{someTerm};
+ghost use mathlib.Core.List.{List};
+ghost use Rattle.store.specs.Records.{splitRecord, groundRecord, recordAt, recordLength, mostNodes};
+ghost use Rattle.store.specs.Code.{HasPlace};
+ghost use Rattle.refutation.specs.Refutation.{decisionsOf, groundFails, nearest, afterGround, named, walkRecord, walkVerdict, checkAnswer};
+ghost use Rattle.path.specs.Paths.{pathOf, PathWithin};
+ghost use Rattle.checker.specs.Answers.{checkedAnswer, PassedExactly, PassedMeans};
+ghost use Rattle.checker.specs.Steps.{Rest, WalkRest, stepAs, noneLeft, Walkable, GoesOn};
+ghost use Rattle.checker.specs.Table.{tableLength, Unmarked, stamped, ClassesWithin, mayHold, mayHoldBy, Checkable, Examinable};
+use classes::Classes;
+use sheet::Condition;
+use sheet::Lot;
+use sheet::Reading;
+use sheet::Record;
+use sheet::Verdict;
+use store::NodeNumber;
+use store::NodeRecord;
+
+// The cells of a row of the table of marks: one for each number that a class can have, 0 included.
+const ROW_LENGTH: usize = 129;
+
+// The numbers of the longest path, and the cells of the table.
+const PATH_LENGTH: usize = 5120;
+
+const TABLE_LENGTH: usize = 16641;
+
+// The checker's answer.
+pub enum CheckAnswer {
+    Passed,
+    Refused { check: u32, place: u32 },
+}
+
+// What a record leaves to the walk: it goes on with so many splits above the following record, the list passes, or a check refuses.
+pub enum Step {
+    On(usize),
+    Passes,
+    Refuses(u32, u32),
+}
+
+// The most splits above a record.
+const MOST_SPLITS: usize = 1024;
+
+// Stamps a value on the two cells of each pair of the path that is set apart, by the classes of its lots.
+fn stamp(table: &mut [u8], path: &[u32], depth: usize, map: Classes, value: u8)
+    requires { ⌜ (length (now table) ≡ tableLength) × PathWithin (now path) depth × ClassesWithin (map .lots) ⌝ }
+    ensures { λ _. ⌜ now (table .exit) ≡ stamped value (map .lots) (decisionsOf (pathOf (now (path .entry)) depth)) (now (table .entry)) ⌝ }
+{
+    let lots = map.lots;
+    let mut i: usize = 0;
+    while i < depth {
+        let pair = path::pair_at(path, i);
+        if !pair.same {
+            let a = pair.a.0 as usize;
+            let b = pair.b.0 as usize;
+            let x = lots[a] as usize;
+            let y = lots[b] as usize;
+            table[ROW_LENGTH * x + y] = value;
+            table[ROW_LENGTH * y + x] = value;
+        }
+        i += 1;
+    }
+}
+
+// Whether a term of a sign, whose lots have the classes x and y, is true or open.
+fn may_hold(table: &[u8], sign: u8, x: u8, y: u8) -> bool
+    requires { ⌜ (length (now table) ≡ tableLength) × (x ≤ mostLots) × (y ≤ mostLots) ⌝ }
+    ensures { λ r. ⌜ r ≡ mayHoldBy (now (table .entry)) (eqb sign 1) x y ⌝ }
+{
+    if sign == 1 {
+        x == y || table[ROW_LENGTH * (x as usize) + (y as usize)] != 1
+    } else {
+        x != y
+    }
+}
+
+// Whether every term of the chain from a record on is false. The map's array is read in place: a method that hands the map back would copy it for each term.
+fn all_false(sheet: &[u8], m: u16, map: Classes, table: &[u8], head: Record) -> bool
+    requires { ⌜ Checkable (now sheet) m × Examinable (map .lots) (now table) × (head .0 ≤ recordCount (now sheet)) ⌝ }
+    ensures { λ r. ⌜ r ≡ not (someTerm (mayHold (map .lots) (now (table .entry))) (termsFrom (now (sheet .entry)) (head .0))) ⌝ }
+{
+    let lots = map.lots;
+    let mut at = head;
+    while at.0 != 0 {
+        let t = sheet::format::term_at(sheet, m, at);
+        let a = t.a.0 as usize;
+        let b = t.b.0 as usize;
+        if may_hold(table, t.sign, lots[a], lots[b]) {
+            return false;
+        }
+        at = t.next;
+    }
+    true
+}
+
+// Whether every term of a condition is false under the path. The pairs that the path sets apart are marked in the table for the test alone: it costs the
+// path's splits and the condition's terms, not their product.
+fn ground_holds(
+    sheet: &[u8],
+    m: u16,
+    path: &[u32],
+    depth: usize,
+    table: &mut [u8],
+    c: Condition,
+) -> bool
+    requires { ⌜ Checkable (now sheet) m × (1 ≤ c .0) × (c .0 ≤ m) × PathWithin (now path) depth × Unmarked (now table) ⌝ }
+    ensures holds { λ r. ⌜ r ≡ not (groundFails (decisionsOf (pathOf (now (path .entry)) depth)) (named (now (sheet .entry)) (c .0))) ⌝ }
+    ensures table { λ r. ⌜ Unmarked (now (table .exit)) ⌝ }
+{
+    let map = path::classes_of(path, depth);
+    let head = sheet::format::head_at(sheet, c);
+    stamp(table, path, depth, map, 1);
+    let holds = all_false(sheet, m, map, table, head);
+    stamp(table, path, depth, map, 0);
+    holds
+}
+
+// After a ground, at record r: the nearest split still in its same branch is turned, if its next is the following record; with no such split the list must end.
+fn after_ground(path: &mut [u32], depth: usize, r: u32, last: bool) -> Step
+    requires { ⌜ Walkable (now path) depth × (r ≤ mostNodes) ⌝ }
+    ensures walk { λ v. ⌜ ((walkRest : WalkRest) (rest : Rest) → last ≡ noneLeft rest
+        → afterGround walkRest rest (r + 1) (nearest (pathOf (now (path .entry)) depth)) ≡ stepAs walkRest (r + 1) (now (path .exit)) v) ⌝ }
+    ensures path { λ v. ⌜ GoesOn (now (path .exit)) v ⌝ }
+{
+    let top = path::nearest(path, depth);
+    if top == 0 {
+        return if last {
+            Step::Passes
+        } else {
+            Step::Refuses(14, r + 1)
+        };
+    }
+    let next = path::next_of(path, top);
+    if next.0 != r + 1 {
+        let number = path::number_of(path, top);
+        return Step::Refuses(13, number.0);
+    }
+    path::turn(path, top);
+    Step::On(top)
+}
+
+// Whether a lot is one of a sheet's n.
+fn in_lots(n: u16, lot: Lot) -> bool
+    ensures { λ r. ⌜ r ≡ lotInRange n (lot .0) ⌝ }
+{
+    1 <= lot.0 && lot.0 <= n
+}
+
+// A split at record r: its lots, how many splits stand above it, and the path with it on top.
+fn split_step(
+    path: &mut [u32],
+    depth: usize,
+    n: u16,
+    r: u32,
+    a: Lot,
+    b: Lot,
+    next: NodeNumber,
+) -> Step
+    requires { ⌜ Walkable (now path) depth × (n ≤ mostLots) ⌝ }
+    ensures walk { λ v. ⌜ ((s : List ℕ) → n ≡ lotCount s → (walkRest : WalkRest) (rest : Rest)
+        → walkRecord s walkRest rest r (pathOf (now (path .entry)) depth) (splitRecord (a .0) (b .0) (next .0)) ≡ stepAs walkRest (r + 1) (now (path .exit)) v) ⌝ }
+    ensures path { λ v. ⌜ GoesOn (now (path .exit)) v ⌝ }
+{
+    if !in_lots(n, a) {
+        return Step::Refuses(11, r);
+    }
+    if !in_lots(n, b) {
+        return Step::Refuses(11, r);
+    }
+    if MOST_SPLITS <= depth {
+        return Step::Refuses(15, r);
+    }
+    let split = path::Split {
+        number: NodeNumber(r),
+        next,
+        a,
+        b,
+    };
+    Step::On(path::push(path, depth, split))
+}
+
+// A ground at record r: its condition, the condition's terms under the path, and what follows.
+fn ground_step(
+    sheet: &[u8],
+    m: u16,
+    path: &mut [u32],
+    depth: usize,
+    table: &mut [u8],
+    r: u32,
+    last: bool,
+    c: Condition,
+) -> Step
+    requires { ⌜ Checkable (now sheet) m × Walkable (now path) depth × (r ≤ mostNodes) × Unmarked (now table) ⌝ }
+    ensures walk { λ v. ⌜ ((walkRest : WalkRest) (rest : Rest) → last ≡ noneLeft rest
+        → walkRecord (now (sheet .entry)) walkRest rest r (pathOf (now (path .entry)) depth) (groundRecord (c .0)) ≡ stepAs walkRest (r + 1) (now (path .exit)) v) ⌝ }
+    ensures path { λ v. ⌜ GoesOn (now (path .exit)) v ⌝ }
+    ensures table { λ v. ⌜ Unmarked (now (table .exit)) ⌝ }
+{
+    if c.0 == 0 || m < c.0 {
+        return Step::Refuses(11, r);
+    }
+    if !ground_holds(sheet, m, path, depth, table, c) {
+        return Step::Refuses(12, r);
+    }
+    after_ground(path, depth, r, last)
+}
+
+// Record r of the list, whichever it is.
+fn record_step(
+    sheet: &[u8],
+    n: u16,
+    m: u16,
+    list: &[u8],
+    path: &mut [u32],
+    depth: usize,
+    table: &mut [u8],
+    r: u32,
+    last: bool,
+) -> Step
+    requires { ⌜ Checkable (now sheet) m × (n ≡ lotCount (now sheet)) × HasPlace (now list) r × Walkable (now path) depth × (r ≤ mostNodes) × Unmarked (now table) ⌝ }
+    ensures walk { λ v. ⌜ ((walkRest : WalkRest) (rest : Rest) → last ≡ noneLeft rest
+        → walkRecord (now (sheet .entry)) walkRest rest r (pathOf (now (path .entry)) depth) (recordAt (now (list .entry)) r) ≡ stepAs walkRest (r + 1) (now (path .exit)) v) ⌝ }
+    ensures path { λ v. ⌜ GoesOn (now (path .exit)) v ⌝ }
+    ensures table { λ v. ⌜ Unmarked (now (table .exit)) ⌝ }
+{
+    let node = store::read(list, NodeNumber(r));
+    match node {
+        NodeRecord::Split(a, b, next) => split_step(path, depth, n, r, a, b, next),
+        NodeRecord::Ground(c) => ground_step(sheet, m, path, depth, table, r, last, c),
+        NodeRecord::Met => Step::Refuses(11, r),
+        NodeRecord::Other => Step::Refuses(11, r),
+    }
+}
+
+// The walk over the list, from record 1.
+fn walk(sheet: &[u8], n: u16, m: u16, list: &[u8], path: &mut [u32], table: &mut [u8]) -> Verdict
+    requires { ⌜ Checkable (now sheet) m × (n ≡ lotCount (now sheet)) × (length (now list) / recordLength ≤ mostNodes) × Walkable (now path) 0 × Unmarked (now table) ⌝ }
+    ensures { λ v. ⌜ v ≡ walkVerdict (now (sheet .entry)) (now (list .entry)) ⌝ }
+{
+    let count = (list.len() / store::RECORD_LENGTH) as u32;
+    let mut depth: usize = 0;
+    let mut r: u32 = 1;
+    while r <= count {
+        let step = record_step(sheet, n, m, list, path, depth, table, r, r == count);
+        match step {
+            Step::Passes => return Verdict::Passes,
+            Step::Refuses(check, place) => return Verdict::Refuses(check, place),
+            Step::On(splits) => {
+                depth = splits;
+            }
+        }
+        r += 1;
+    }
+    Verdict::Refuses(14, r)
+}
+
+// The verdict on a list, with a path and a table of its own.
+fn check_list(sheet: &[u8], n: u16, m: u16, list: &[u8]) -> Verdict
+    requires { ⌜ Checkable (now sheet) m × (n ≡ lotCount (now sheet)) × (length (now list) / recordLength ≤ mostNodes) ⌝ }
+    ensures { λ v. ⌜ v ≡ walkVerdict (now (sheet .entry)) (now (list .entry)) ⌝ }
+{
+    let mut path = [0u32; PATH_LENGTH];
+    let mut table = [0u8; TABLE_LENGTH];
+    walk(sheet, n, m, list, &mut path, &mut table)
+}
+
+// Whether a list's length is none that a list of records can have.
+fn ill_sized(list: &[u8]) -> bool
+    ensures { λ r. ⌜ r ≡ (eqb (length (now (list .entry))) 0 || not (eqb (length (now (list .entry)) % recordLength) 0) || ltb mostNodes (length (now (list .entry)) / recordLength)) ⌝ }
+{
+    let length = list.len();
+    if length == 0 {
+        return true;
+    }
+    if length % store::RECORD_LENGTH != 0 {
+        return true;
+    }
+    store::MOST_NODES < length / store::RECORD_LENGTH
+}
+
+// The refutation checker, for any bytes at all and a list from any hand: the first check that fails, or the list passes, and then nobody can meet the sheet.
+pub fn check(sheet: &[u8], list: &[u8]) -> CheckAnswer
+    ensures answer { λ r. ⌜ checkedAnswer r ≡ checkAnswer (now (sheet .entry)) (now (list .entry)) ⌝ }
+    ensures passed { λ r. ⌜ PassedExactly r (now (sheet .entry)) (now (list .entry)) ⌝ }
+    ensures meaning { λ r. ⌜ PassedMeans r (now (sheet .entry)) ⌝ }
+{
+    let reading = sheet::read(sheet);
+    match reading {
+        Reading::Refused { check, place } => CheckAnswer::Refused { check, place },
+        Reading::Accepted {
+            lots,
+            conditions,
+            terms: _,
+        } => {
+            if ill_sized(list) {
+                return CheckAnswer::Refused {
+                    check: 10,
+                    place: 0,
+                };
+            }
+            let verdict = check_list(sheet, lots, conditions, list);
+            match verdict {
+                Verdict::Passes => CheckAnswer::Passed,
+                Verdict::Refuses(check, place) => CheckAnswer::Refused { check, place },
+            }
+        }
+    }
+}

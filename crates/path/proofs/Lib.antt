@@ -1,0 +1,3 @@
+pub mod Splits
+pub mod Within
+mod Joining

@@ -1,0 +1,138 @@
+// The splits above a record of a list of records, with the branch taken at each, in lent numbers: the path that a checker of the list keeps. The
+// functions take the numbers and how many splits there are; the room is the slice's length.
+ghost use mathlib.Core.Path.{_≡_};
+ghost use mathlib.Core.List.{_∷_};
+ghost use Prim.Native.Nat.{_+_, _*_, _-_, _≤_, _<_};
+ghost use lib.ListN.{length};
+ghost use Rattle.sheet.specs.Format.{mostLots};
+ghost use Rattle.equality.specs.Node.{classes};
+ghost use Rattle.refutation.specs.Refutation.{decisionsOf, nearest, turned};
+ghost use Rattle.path.specs.Paths.{splitLength, splitIn, firstLotIn, secondLotIn, pathOf, PathWithin, nearestAs, splitOf, decisionOf};
+use classes::Classes;
+use sheet::Lot;
+use store::NodeNumber;
+
+// The numbers of a split: its record number, its next, the branch taken, lot a, lot b. A record number has 32 bits, so that no list is too long for it.
+pub const SPLIT_LENGTH: usize = 5;
+
+// The same branch taken.
+const SAME: u32 = 1;
+
+// The apart branch taken.
+const APART: u32 = 2;
+
+// A split, as it is pushed; its lots as written in the record.
+pub struct Split {
+    pub number: NodeNumber,
+    pub next: NodeNumber,
+    pub a: Lot,
+    pub b: Lot,
+}
+
+// The lots of a split, and whether they are set same or set apart.
+pub struct Pair {
+    pub same: bool,
+    pub a: Lot,
+    pub b: Lot,
+}
+
+// A split goes on top, in its same branch.
+pub fn push(path: &mut [u32], depth: usize, split: Split) -> usize
+    requires { ⌜ splitLength * depth + splitLength ≤ length (now path) ⌝ }
+    ensures depth { λ r. ⌜ r ≡ depth + 1 ⌝ }
+    ensures path { λ r. ⌜ pathOf (now (path .exit)) r ≡ splitOf split ∷ pathOf (now (path .entry)) depth ⌝ }
+{
+    let at = SPLIT_LENGTH * depth;
+    path[at] = split.number.0;
+    path[at + 1] = split.next.0;
+    path[at + 2] = SAME;
+    path[at + 3] = split.a.0 as u32;
+    path[at + 4] = split.b.0 as u32;
+    depth + 1
+}
+
+// The top split goes to its apart branch.
+pub fn turn(path: &mut [u32], depth: usize)
+    requires { ⌜ (0 < depth) × (splitLength * depth ≤ length (now path)) ⌝ }
+    ensures { λ _. ⌜ pathOf (now (path .exit)) depth
+        ≡ turned (splitIn (now (path .entry)) (depth - 1)) (firstLotIn (now (path .entry)) (depth - 1)) (secondLotIn (now (path .entry)) (depth - 1))
+        ∷ pathOf (now (path .entry)) (depth - 1) ⌝ }
+{
+    path[SPLIT_LENGTH * (depth - 1) + 2] = APART;
+}
+
+// The top split is dropped: its numbers stay, and count no more.
+pub fn drop_last(path: &[u32], depth: usize) -> usize
+    requires { ⌜ 0 < depth ⌝ }
+    ensures depth { λ r. ⌜ r ≡ depth - 1 ⌝ }
+    ensures path { λ r. ⌜ pathOf (now (path .entry)) depth ≡ splitIn (now (path .entry)) r ∷ pathOf (now (path .entry)) r ⌝ }
+{
+    depth - 1
+}
+
+// The nearest split still in its same branch: how many splits stand above and with it, or 0 where there is none. Those nearer are over.
+pub fn nearest(path: &[u32], depth: usize) -> usize
+    requires { ⌜ splitLength * depth ≤ length (now path) ⌝ }
+    ensures within { λ r. ⌜ r ≤ depth ⌝ }
+    ensures nearest { λ r. ⌜ nearestAs (now (path .entry)) r ≡ nearest (pathOf (now (path .entry)) depth) ⌝ }
+{
+    let mut top = depth;
+    while 0 < top {
+        let branch = path[SPLIT_LENGTH * (top - 1) + 2];
+        if branch == SAME {
+            return top;
+        }
+        top -= 1;
+    }
+    top
+}
+
+// The record number of the top split.
+pub fn number_of(path: &[u32], depth: usize) -> NodeNumber
+    requires { ⌜ (0 < depth) × (splitLength * depth ≤ length (now path)) ⌝ }
+    ensures { λ r. ⌜ r .0 ≡ splitIn (now (path .entry)) (depth - 1) .number ⌝ }
+{
+    NodeNumber(path[SPLIT_LENGTH * (depth - 1)])
+}
+
+// The next of the top split.
+pub fn next_of(path: &[u32], depth: usize) -> NodeNumber
+    requires { ⌜ (0 < depth) × (splitLength * depth ≤ length (now path)) ⌝ }
+    ensures { λ r. ⌜ r .0 ≡ splitIn (now (path .entry)) (depth - 1) .next ⌝ }
+{
+    NodeNumber(path[SPLIT_LENGTH * (depth - 1) + 1])
+}
+
+// The pair of split i, counted from 0 at the root.
+pub fn pair_at(path: &[u32], i: usize) -> Pair
+    requires { ⌜ PathWithin (now path) (i + 1) ⌝ }
+    ensures decision { λ r. ⌜ decisionOf r ≡ splitIn (now (path .entry)) i .decision ⌝ }
+    ensures lots { λ r. ⌜ (r .a .0 ≤ mostLots) × (r .b .0 ≤ mostLots) ⌝ }
+{
+    let at = SPLIT_LENGTH * i;
+    Pair {
+        same: path[at + 2] == SAME,
+        a: Lot(path[at + 3] as u16),
+        b: Lot(path[at + 4] as u16),
+    }
+}
+
+// The classes of the path: each split in its same branch joins its lots, from the root on. A pair that shares a class already is passed by, so that only
+// the joins that still join something cost a walk over the map.
+pub fn classes_of(path: &[u32], depth: usize) -> Classes
+    requires { ⌜ PathWithin (now path) depth ⌝ }
+    ensures { λ r. ⌜ r .lots ≡ classes (decisionsOf (pathOf (now (path .entry)) depth)) ⌝ }
+{
+    let mut map = Classes::new();
+    let mut i: usize = 0;
+    while i < depth {
+        let pair = pair_at(path, i);
+        let a = pair.a.0 as usize;
+        let b = pair.b.0 as usize;
+        if pair.same && map.lots[a] != map.lots[b] {
+            map = map.join(pair.a, pair.b);
+        }
+        i += 1;
+    }
+    map
+}
