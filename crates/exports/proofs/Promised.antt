@@ -1,8 +1,9 @@
 -- The search's and the evaluator's promises, of the case that they answer, carried over to its numbers.
-use Prim.Native.Nat.{ℕ, zero, suc, _≤_}
+use Prim.Native.Nat.{ℕ, zero, suc, _*_, _≤_}
 use mathlib.Core.List.{List, []}
 use mathlib.Core.Path.{_≡_, refl, sym, _∙_}
 use native.Mathlib.Omega.{arith}
+use lib.ListN.{take}
 use Rattle.sheet.specs.declared.Verdict.{Verdict}
 use Rattle.sheet.specs.declared.Verdict.the-variants.{Passes, Refuses}
 use Rattle.sheet.specs.Conditions.{conditions}
@@ -15,10 +16,12 @@ use Rattle.equality.proofs.Checked.{sheet-refused}
 use Rattle.evaluator.specs.declared.Evaluation.{Evaluation}
 use Rattle.evaluator.specs.declared.Evaluation.the-variants as evaluation
 use Rattle.evaluator.specs.Answers.{evaluationAnswer, unmetOr, Evaluated}
+use Rattle.store.specs.Records.{recordLength}
 use Rattle.search.specs.declared.SearchAnswer.{SearchAnswer}
 use Rattle.search.specs.declared.SearchAnswer.the-variants.{Met, Cannot, Full, Refused}
 use Rattle.search.specs.Answers.{searchAnswer}
 use Rattle.search.specs.Promises.{RefusedExactly, FullExactly, MetExactly, MetGrouping, CannotExactly, CannotRefutes, CountBounded}
+use Rattle.search.proofs.Promised.{answer-passing}
 use Rattle.exports.specs.Answers.{numbersOf}
 use Rattle.exports.specs.Promises.{ZeroExactly, NineExactly, OneExactly, OneMeets, TwoExactly, TwoRefutes, SecondBounded, FirstUnmet}
 use Rattle.exports.proofs.Early.{refusal-early}
@@ -66,7 +69,7 @@ module _ (s grouping : List ℕ) where
 
   pub two-refutes : (store′ : List ℕ) (a : SearchAnswer) → RefusedExactly a s grouping → CannotRefutes a s store′ → TwoRefutes (numbersOf (searchAnswer a)) s store′
   two-refutes store′ (Met count) early refutes = λ z e. absurd (omega (arith, e))
-  two-refutes store′ (Cannot count) early refutes = λ z e. refutes
+  two-refutes store′ (Cannot count) early passed = λ z e. answer-passing s (take (recordLength * count) store′) passed
   two-refutes store′ (Full capacity) early refutes = λ z e. absurd (omega (arith, z))
   two-refutes store′ (Refused check place) early refutes = λ z e. absurd (omega (arith, z, number check place early .0))
 
