@@ -60,9 +60,9 @@ void sheet_long_condition(sheet *s, unsigned lots, unsigned terms) {
     write_sheet(s, &d, lots);
 }
 
-void sheet_deepest(sheet *s) {
+void sheet_deep(sheet *s, unsigned terms) {
     draft d = {0};
-    same_pairs(&d, 128, 1024);
+    same_pairs(&d, 128, terms);
     condition(&d);
     write_sheet(s, &d, 128);
 }

@@ -14,8 +14,9 @@ typedef struct {
 /* One condition "same" over the first `terms` pairs a < b of `lots` lots, and one "apart 1 1": 2 * terms + 1 nodes, on a path of `terms` splits. */
 void sheet_long_condition(sheet *s, unsigned lots, unsigned terms);
 
-/* One condition "same" of 1,024 terms, and one with no term: 2,049 nodes, on a path of 1,024 splits. No sheet has a longer path. */
-void sheet_deepest(sheet *s);
+/* One condition "same" over the first `terms` pairs a < b of 128 lots, and one with no term: 2 * terms + 1 nodes, on a path of `terms` splits. With 1,024 terms no
+   sheet has a longer path. */
+void sheet_deep(sheet *s, unsigned terms);
 
 /* r conditions of w terms "same 1 b", no b twice, and one "apart 1 1": the most nodes that r conditions of w "same" terms can have. */
 void sheet_dearest(sheet *s, unsigned r, unsigned w);

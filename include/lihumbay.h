@@ -30,6 +30,10 @@ lihumbay_numbers lihumbay_search(const uint8_t *sheet, size_t sheet_length, uint
 /* The evaluator: 0 where the grouping meets every condition, else the lowest condition that it doesn't; then 0, 0. */
 lihumbay_numbers lihumbay_evaluate(const uint8_t *sheet, size_t sheet_length, const uint8_t *grouping, size_t grouping_length);
 
+/* The refutation checker: 0, 0, 0 where the list, whole records from any hand, is a refutation of the sheet; then nobody can meet the sheet. The search's own is
+   the first 8 * count bytes of its store where it answers 2. */
+lihumbay_numbers lihumbay_check(const uint8_t *sheet, size_t sheet_length, const uint8_t *list, size_t list_length);
+
 #ifdef __cplusplus
 }
 #endif

@@ -1,5 +1,5 @@
-/* Calls each exported function on sheet C of document 01, and on calls that are refused, and compares answers and buffers. Its exit status is 0 where all
-   agree. */
+/* Calls each exported function on the sheets A and C of document 01, and on calls that are refused, and compares answers and buffers. Its exit status is 0
+   where all agree. */
 #include <stdio.h>
 #include <string.h>
 
@@ -14,6 +14,18 @@ static const uint8_t sheet_c[] = {
 static const uint8_t nodes_c[] = {
     1, 0, 1, 0, 2, 0, 3, 0, 2, 0, 2, 0, 0, 0, 0, 0,
     1, 0, 1, 0, 3, 0, 0, 0, 3, 0, 0, 0, 0, 0, 0, 0,
+};
+
+/* same 1 2; same 2 3; apart 1 3 */
+static const uint8_t sheet_a[] = {
+    3, 0, 3, 0, 3, 0,       1, 0, 2, 0, 3, 0,       1, 0, 1, 0, 2, 0, 0, 0,
+    1, 0, 2, 0, 3, 0, 0, 0, 2, 0, 1, 0, 3, 0, 0, 0,
+};
+
+/* split 1 2 5; split 2 3 4; ground 3; ground 2; ground 1 */
+static const uint8_t nodes_a[] = {
+    1, 0, 1, 0, 2, 0, 5, 0, 1, 0, 2, 0, 3, 0, 4, 0, 2, 0, 3, 0, 0, 0, 0, 0,
+    2, 0, 2, 0, 0, 0, 0, 0, 2, 0, 1, 0, 0, 0, 0, 0,
 };
 
 static int failed = 0;
@@ -75,12 +87,43 @@ static void evaluator(void) {
     expect("evaluate, grouping short", is(lihumbay_evaluate(sheet_c, sizeof sheet_c, (const uint8_t *)"\7\7", 2), 8, 3, 0, 0));
 }
 
+/* The list of sheet A with one byte changed is refused by a check, at a place. */
+static void changed(const char *what, size_t at, uint8_t value, uint32_t check, uint32_t place) {
+    uint8_t list[sizeof nodes_a];
+    memcpy(list, nodes_a, sizeof list);
+    list[at] = value;
+    expect(what, is(lihumbay_check(sheet_a, sizeof sheet_a, list, sizeof list), check, place, 0, 0));
+}
+
+static void checker(void) {
+    uint8_t grouping[3], store[48];
+    memset(store, 0, sizeof store);
+    expect("search A", is(lihumbay_search(sheet_a, sizeof sheet_a, grouping, 3, store, sizeof store), 0, 2, 5, 0));
+    expect("its refutation", memcmp(store, nodes_a, sizeof nodes_a) == 0);
+    expect("check A", is(lihumbay_check(sheet_a, sizeof sheet_a, store, 40), 0, 0, 0, 0));
+    expect("check, a record left over", is(lihumbay_check(sheet_a, sizeof sheet_a, store, 48), 14, 6, 0, 0));
+    expect("check, the next one missing", is(lihumbay_check(sheet_a, sizeof sheet_a, store, 32), 14, 5, 0, 0));
+    expect("check, no whole records", is(lihumbay_check(sheet_a, sizeof sheet_a, store, 39), 10, 0, 0, 0));
+    expect("check, no record", is(lihumbay_check(sheet_a, sizeof sheet_a, store, 0), 10, 0, 0, 0));
+    expect("check, a sheet refused", is(lihumbay_check(sheet_a, 5, store, 40), 1, 0, 0, 0));
+    expect("check, a met record", is(lihumbay_check(sheet_c, sizeof sheet_c, nodes_c, sizeof nodes_c), 11, 4, 0, 0));
+    changed("check, a kind", 0, 3, 11, 1);
+    changed("check, a spare byte", 17, 1, 11, 3);
+    changed("check, a lot", 10, 4, 11, 2);
+    changed("check, a ground's second", 20, 1, 11, 3);
+    changed("check, a term that is not false", 18, 1, 12, 3);
+    changed("check, an open term", 10, 3, 12, 3);
+    changed("check, next of the first split", 6, 4, 13, 1);
+    changed("check, next of the second split", 14, 5, 13, 2);
+}
+
 int main(void) {
     reader();
     search_met();
     search_refused();
     search_cannot();
     evaluator();
+    checker();
     puts(failed ? "calls: FAILED" : "calls: ok");
     return failed;
 }

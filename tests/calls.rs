@@ -1,4 +1,4 @@
-// Calls the exported search and evaluator from Rust, on sheet C of document 01. A slice is passed as its pointer and then its length.
+// Calls the exported search, evaluator and checker from Rust, on the sheets A and C of document 01. A slice is passed as its pointer and then its length.
 
 #[repr(C)]
 #[derive(Debug, PartialEq)]
@@ -19,6 +19,7 @@ extern "C" {
         store_length: usize,
     ) -> Numbers;
     fn lihumbay_evaluate(sheet: *const u8, sheet_length: usize, grouping: *const u8, grouping_length: usize) -> Numbers;
+    fn lihumbay_check(sheet: *const u8, sheet_length: usize, list: *const u8, list_length: usize) -> Numbers;
 }
 
 fn search(sheet: &[u8], grouping: &mut [u8], store: &mut [u8]) -> Numbers {
@@ -29,8 +30,23 @@ fn evaluate(sheet: &[u8], grouping: &[u8]) -> Numbers {
     unsafe { lihumbay_evaluate(sheet.as_ptr(), sheet.len(), grouping.as_ptr(), grouping.len()) }
 }
 
+fn check(sheet: &[u8], list: &[u8]) -> Numbers {
+    unsafe { lihumbay_check(sheet.as_ptr(), sheet.len(), list.as_ptr(), list.len()) }
+}
+
 fn numbers(check: u32, first: u32, second: u32, third: u32) -> Numbers {
     Numbers { check, first, second, third }
+}
+
+// The search's own refutation of sheet A passes; with next of its first split changed it is refused, at that split.
+fn sheet_a() {
+    let sheet = [3, 0, 3, 0, 3, 0, 1, 0, 2, 0, 3, 0, 1, 0, 1, 0, 2, 0, 0, 0, 1, 0, 2, 0, 3, 0, 0, 0, 2, 0, 1, 0, 3, 0, 0, 0];
+    let mut store = [0u8; 40];
+    assert_eq!(search(&sheet, &mut [0u8; 3], &mut store), numbers(0, 2, 5, 0));
+    assert_eq!(check(&sheet, &store), numbers(0, 0, 0, 0));
+    store[6] = 4;
+    assert_eq!(check(&sheet, &store), numbers(13, 1, 0, 0));
+    assert_eq!(check(&sheet, &store[..39]), numbers(10, 0, 0, 0));
 }
 
 fn main() {
@@ -43,5 +59,6 @@ fn main() {
     assert_eq!(evaluate(&sheet, &grouping), numbers(0, 0, 0, 0));
     assert_eq!(evaluate(&sheet, &grouping[..2]), numbers(8, 3, 0, 0));
     assert_eq!(search(&sheet, &mut [], &mut store), numbers(8, 3, 0, 0));
+    sheet_a();
     println!("calls from Rust: ok");
 }

@@ -1,2 +1,3 @@
 pub mod Early
+pub mod Numbered
 pub mod Promised

@@ -1,8 +1,9 @@
 -- The search's and the evaluator's promises, of the case that they answer, carried over to its numbers.
-use Prim.Native.Nat.{ℕ, zero, suc, _≤_}
+use Prim.Native.Nat.{ℕ, zero, suc, _*_, _≤_}
 use mathlib.Core.List.{List, []}
 use mathlib.Core.Path.{_≡_, refl, sym, _∙_}
 use native.Mathlib.Omega.{arith}
+use lib.ListN.{take}
 use Rattle.sheet.specs.declared.Verdict.{Verdict}
 use Rattle.sheet.specs.declared.Verdict.the-variants.{Passes, Refuses}
 use Rattle.sheet.specs.Conditions.{conditions}
@@ -15,13 +16,20 @@ use Rattle.equality.proofs.Checked.{sheet-refused}
 use Rattle.evaluator.specs.declared.Evaluation.{Evaluation}
 use Rattle.evaluator.specs.declared.Evaluation.the-variants as evaluation
 use Rattle.evaluator.specs.Answers.{evaluationAnswer, unmetOr, Evaluated}
+use Rattle.store.specs.Records.{recordLength}
 use Rattle.search.specs.declared.SearchAnswer.{SearchAnswer}
 use Rattle.search.specs.declared.SearchAnswer.the-variants.{Met, Cannot, Full, Refused}
 use Rattle.search.specs.Answers.{searchAnswer}
 use Rattle.search.specs.Promises.{RefusedExactly, FullExactly, MetExactly, MetGrouping, CannotExactly, CannotRefutes, CountBounded}
+use Rattle.search.proofs.Promised.{answer-passing}
+use Rattle.refutation.specs.Refutation.{listVerdict, checkAnswer}
+use Rattle.checker.specs.declared.CheckAnswer.{CheckAnswer}
+use Rattle.checker.specs.declared.CheckAnswer.the-variants as check
+use Rattle.checker.specs.Answers.{checkedAnswer, PassedExactly, PassedMeans}
 use Rattle.exports.specs.Answers.{numbersOf}
-use Rattle.exports.specs.Promises.{ZeroExactly, NineExactly, OneExactly, OneMeets, TwoExactly, TwoRefutes, SecondBounded, FirstUnmet}
+use Rattle.exports.specs.Promises.{ZeroExactly, NineExactly, OneExactly, OneMeets, TwoExactly, TwoRefutes, SecondBounded, FirstUnmet, ZeroPassed, ZeroMeans}
 use Rattle.exports.proofs.Early.{refusal-early}
+use Rattle.exports.proofs.Numbered.{refusal-numbered}
 
 -- A sheet that is refused is not accepted, and the check is not 0: a call with a grouping would fail it too.
 pub zero-exactly : (s : List ℕ) (a : Reading) → readingAnswer a ≡ readAnswer s → ZeroExactly (numbersOf (readingAnswer a)) s
@@ -66,7 +74,7 @@ module _ (s grouping : List ℕ) where
 
   pub two-refutes : (store′ : List ℕ) (a : SearchAnswer) → RefusedExactly a s grouping → CannotRefutes a s store′ → TwoRefutes (numbersOf (searchAnswer a)) s store′
   two-refutes store′ (Met count) early refutes = λ z e. absurd (omega (arith, e))
-  two-refutes store′ (Cannot count) early refutes = λ z e. refutes
+  two-refutes store′ (Cannot count) early passed = λ z e. answer-passing s (take (recordLength * count) store′) passed
   two-refutes store′ (Full capacity) early refutes = λ z e. absurd (omega (arith, z))
   two-refutes store′ (Refused check place) early refutes = λ z e. absurd (omega (arith, z, number check place early .0))
 
@@ -94,3 +102,22 @@ module _ (s grouping : List ℕ) where
   first-unmet evaluation.AllMet answer means = λ z. means
   first-unmet (evaluation.Unmet c) answer means = λ z. named (c .0) means
   first-unmet (evaluation.Refused check place) answer means = λ z. absurd (omega (arith, z, refusal-early s grouping check place (evaluation-refuses check place answer) .0))
+
+-- A refusal that the checker answers is the first check that fails.
+check-refuses : (s list : List ℕ) (check place : ℕ) → refused check place ≡ checkAnswer s list → listVerdict s list ≡ Refuses check place
+unfolding checkAnswer
+check-refuses s list check place e = go (listVerdict s list) refl e
+  where
+    go : (v : Verdict) → listVerdict s list ≡ v → refused check place ≡ answerOf v (answered 0 0 0) → listVerdict s list ≡ Refuses check place
+    go Passes q e = let z : _≡_ {A = ℕ} 0 1 = cc in absurd (omega arith)
+    go (Refuses c p) q e = let same : c ≡ check = cc in let at : p ≡ place = cc in q ∙ (λ i. Refuses (same i) (at i))
+
+module _ (s list : List ℕ) where
+  pub zero-passed : (a : CheckAnswer) → checkedAnswer a ≡ checkAnswer s list → PassedExactly a s list → ZeroPassed (numbersOf (checkedAnswer a)) s list
+  zero-passed check.Passed answer exactly = ((λ z. exactly .0 tt), (λ passes. refl))
+  zero-passed (check.Refused number place) answer exactly =
+      ((λ z. absurd (omega (arith, z, refusal-numbered s list number place (check-refuses s list number place answer)))), (λ passes. absurd (exactly .1 passes)))
+
+  pub zero-means : (a : CheckAnswer) → checkedAnswer a ≡ checkAnswer s list → PassedMeans a s → ZeroMeans (numbersOf (checkedAnswer a)) s
+  zero-means check.Passed answer means = λ z. means tt
+  zero-means (check.Refused number place) answer means = λ z. absurd (omega (arith, z, refusal-numbered s list number place (check-refuses s list number place answer)))

@@ -46,3 +46,11 @@ SecondBounded r s = r .check ≡ 0 → r .second < 2 * branching (conditions s)
 -- Of an evaluation that was not refused: 0, and the grouping meets the sheet; or the lowest condition that it doesn't meet.
 abbrev pub FirstUnmet : Numbers → List ℕ → List ℕ → Type 0
 FirstUnmet r s grouping = r .check ≡ 0 → Evaluated (unmetOr (r .first)) s grouping
+
+-- Of the checker: no check refuses exactly when the list is a refutation,
+abbrev pub ZeroPassed : Numbers → List ℕ → List ℕ → Type 0
+ZeroPassed r s list = r .check ≡ 0 ↔ Refutes s list
+
+-- and then nobody can meet the sheet, whatever the list and from whichever hand.
+abbrev pub ZeroMeans : Numbers → List ℕ → Type 0
+ZeroMeans r s = r .check ≡ 0 → (f : ℕ → ℕ) → ¬ Meets f s

@@ -5,8 +5,11 @@ ghost use Rattle.equality.specs.Evaluator.{evaluateAnswer};
 ghost use Rattle.evaluator.specs.Answers.{evaluationAnswer};
 ghost use Rattle.store.specs.Outcome.{searchOutcome};
 ghost use Rattle.search.specs.Answers.{searchAnswer};
+ghost use Rattle.refutation.specs.Refutation.{checkAnswer};
+ghost use Rattle.checker.specs.Answers.{checkedAnswer};
 ghost use Rattle.exports.specs.Answers.{numbersOf};
-ghost use Rattle.exports.specs.Promises.{ZeroExactly, NineExactly, OneExactly, OneMeets, TwoExactly, TwoRefutes, SecondBounded, FirstUnmet};
+ghost use Rattle.exports.specs.Promises.{ZeroExactly, NineExactly, OneExactly, OneMeets, TwoExactly, TwoRefutes, SecondBounded, FirstUnmet, ZeroPassed, ZeroMeans};
+use checker::CheckAnswer;
 use evaluator::Evaluation;
 use search::SearchAnswer;
 use sheet::Reading;
@@ -76,6 +79,15 @@ fn of_search(answer: SearchAnswer) -> Numbers
     }
 }
 
+fn of_check(answer: CheckAnswer) -> Numbers
+    ensures { λ r. ⌜ r ≡ numbersOf (checkedAnswer answer) ⌝ }
+{
+    match answer {
+        CheckAnswer::Refused { check, place } => refused(check, place),
+        CheckAnswer::Passed => answered(0, 0, 0),
+    }
+}
+
 // The reader: lots, conditions and terms.
 #[no_mangle]
 pub extern "C" fn lihumbay_read(sheet: &[u8]) -> Numbers
@@ -108,4 +120,14 @@ pub extern "C" fn lihumbay_search(sheet: &[u8], grouping: &mut [u8], store: &mut
     ensures count { λ r. ⌜ SecondBounded r (now (sheet .entry)) ⌝ }
 {
     of_search(search::search(sheet, grouping, store))
+}
+
+// The refutation checker: no value where the list passes.
+#[no_mangle]
+pub extern "C" fn lihumbay_check(sheet: &[u8], list: &[u8]) -> Numbers
+    ensures answer { λ r. ⌜ r ≡ numbersOf (checkAnswer (now (sheet .entry)) (now (list .entry))) ⌝ }
+    ensures passed { λ r. ⌜ ZeroPassed r (now (sheet .entry)) (now (list .entry)) ⌝ }
+    ensures meaning { λ r. ⌜ ZeroMeans r (now (sheet .entry)) ⌝ }
+{
+    of_check(checker::check(sheet, list))
 }

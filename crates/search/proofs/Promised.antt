@@ -13,6 +13,7 @@ use Rattle.sheet.specs.declared.Verdict.the-variants.{Passes, Refuses}
 use Rattle.sheet.specs.Format.{lotCount}
 use Rattle.sheet.specs.Checks.{Accepted}
 use Rattle.sheet.specs.Conditions.{conditions}
+use Rattle.sheet.specs.Answers.{answered, answerOf}
 use Rattle.sheet.proofs.Verdicts.{not-both}
 use Rattle.sheet.proofs.Further.{further-passes}
 use Rattle.equality.specs.Meaning.{Meets}
@@ -23,6 +24,7 @@ use Rattle.store.specs.Records.{records, encodeAll, recordLength, capacity}
 use Rattle.store.specs.Outcome.{Result, refusedResult, fullResult, metResult, cannotResult, metOrCannot, fullOr, resultOf, resultAnswer, groupingAfter, storeAfter, searchOutcome}
 use Rattle.store.proofs.Codec.{bytes-count}
 use Rattle.store.proofs.Grouping as left
+use Rattle.refutation.specs.Refutation.{Refutes, listVerdict, checkAnswer}
 use Rattle.refutation.proofs.Own.{own-grounds-pass}
 use Rattle.search.specs.declared.SearchAnswer.{SearchAnswer}
 use Rattle.search.specs.Answers.{searchAnswer}
@@ -57,6 +59,20 @@ ends s grouping store = by-verdict (groupingVerdict s grouping) refl
 accepted : (s grouping : List ℕ) → groupingVerdict s grouping ≡ Passes → Accepted s
 unfolding groupingVerdict
 accepted s grouping v = further-passes s (check8 s grouping ∷ []) v .0
+
+-- A refutation is a list that the checker answers by passing it,
+passing-answer : (s list : List ℕ) → Refutes s list → checkAnswer s list ≡ answered 0 0 0
+unfolding checkAnswer
+passing-answer s list passes = ap (λ (v : Verdict). answerOf v (answered 0 0 0)) passes
+
+-- and what it passes is one.
+pub answer-passing : (s list : List ℕ) → checkAnswer s list ≡ answered 0 0 0 → Refutes s list
+unfolding checkAnswer
+answer-passing s list e = go (listVerdict s list) e
+  where
+    go : (v : Verdict) → answerOf v (answered 0 0 0) ≡ answered 0 0 0 → v ≡ Passes
+    go Passes e = refl
+    go (Refuses check place) e = let z : _≡_ {A = ℕ} 0 1 = cc in absurd (omega arith)
 
 -- A result's case has the result's number and values.
 case-answer : (result : Result) → searchAnswer (answerCase result) ≡ resultAnswer result
@@ -157,7 +173,7 @@ module _ (s grouping store : List ℕ) (r : SearchAnswer) (e : r ≡ searchCase 
       go result (ends-cannot v fits m) =
           let bytes = encodeAll (records 1 (searchTree (conditions s))) in
           rw (take-at bytes (drop (length bytes) store) (recordLength * nodeCount (searchTree (conditions s))) (bytes-count 1 (searchTree (conditions s))))
-          (own-grounds-pass s (accepted s grouping v) m (omega arith))
+          (passing-answer s bytes (own-grounds-pass s (accepted s grouping v) m (omega arith)))
 
   -- ---- the count
 

@@ -7,12 +7,13 @@ use mathlib.Core.Path.{_≡_}
 use lib.ListN.{take}
 use Rattle.sheet.specs.declared.Verdict.the-variants.{Passes, Refuses}
 use Rattle.sheet.specs.Conditions.{conditions}
+use Rattle.sheet.specs.Answers.{answered}
 use Rattle.equality.specs.Meaning.{Meets}
 use Rattle.equality.specs.Search.{searchTree, nodeCount, branching}
 use Rattle.equality.specs.Evaluator.{groupingVerdict, GroupingMeets}
 use Rattle.store.specs.Records.{recordLength, capacity}
 use Rattle.store.specs.Outcome.{Result, refusedResult, fullResult, metResult, cannotResult, resultOf}
-use Rattle.refutation.specs.Refutation.{Refutes}
+use Rattle.refutation.specs.Refutation.{checkAnswer}
 use Rattle.search.specs.declared.SearchAnswer.{SearchAnswer}
 use Rattle.search.specs.declared.SearchAnswer.the-variants.{Met, Cannot, Full, Refused}
 
@@ -90,11 +91,11 @@ CannotExactly r s = Made r → (IsCannot r ↔ ((f : ℕ → ℕ) → ¬ Meets f
 abbrev pub CannotAny : SearchAnswer → List ℕ → Type 1
 CannotAny r s = IsCannot r → (A : Type 0) → ((x y : A) → Dec (x ≡ y)) → (f : ℕ → A) → ¬ Meets f s
 
--- "Met and cannot carry the count c of records; only the first 8c bytes are written": where it cannot be met, these bytes of the store as it is at exit
--- are a refutation of the sheet.
+-- "Met and cannot carry the count c of records; only the first 8c bytes are written": where it cannot be met, the checker passes these bytes of the store
+-- as it is at exit. `checkAnswer` is the definition that `checker::check` answers by.
 abbrev pub CannotRefutes : SearchAnswer → List ℕ → List ℕ → Type 0
 CannotRefutes (Met count) s store′ = Unit {0}
-CannotRefutes (Cannot count) s store′ = Refutes s (take (recordLength * count) store′)
+CannotRefutes (Cannot count) s store′ = checkAnswer s (take (recordLength * count) store′) ≡ answered 0 0 0
 CannotRefutes (Full capacity) s store′ = Unit {0}
 CannotRefutes (Refused check place) s store′ = Unit {0}
 

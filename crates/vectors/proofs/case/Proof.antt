@@ -23,35 +23,29 @@ slice-aggregate-buffer-3 c = search needs
 buffer-requires-3 : tie.Need-buffer-requires-3
 buffer-requires-3 c κs = search needs
 
-is-there-requires : tie.Need-is-there-requires
-is-there-requires c κs = search needs
-
 array-share-prefix-sheet : tie.Need-array-share-prefix-sheet
 array-share-prefix-sheet c = search needs
 
 slice-aggregate-run : tie.Need-slice-aggregate-run
-slice-aggregate-run c = let called = c .before .before .before .before .before .before .before .before .before .before .buffer in sym (length-take-le _ _ (called .ensures))
+slice-aggregate-run c = let called = c .before .before .before .before .before .before .before .before .buffer in sym (length-take-le _ _ (called .ensures))
 
 array-borrow-prefix-second : tie.Need-array-borrow-prefix-second
 array-borrow-prefix-second c = search needs
 
 slice-aggregate-run-2 : tie.Need-slice-aggregate-run-2
-slice-aggregate-run-2 c = let called = c .before .before .before .before .before .before .before .before .buffer2 in sym (length-take-le _ _ (called .ensures))
+slice-aggregate-run-2 c = let called = c .before .before .before .before .before .before .buffer2 in sym (length-take-le _ _ (called .ensures))
 
 array-borrow-prefix-third : tie.Need-array-borrow-prefix-third
 array-borrow-prefix-third c = search needs
 
 slice-aggregate-run-3 : tie.Need-slice-aggregate-run-3
-slice-aggregate-run-3 c = let called = c .before .before .before .before .before .before .buffer3 in sym (length-take-le _ _ (called .ensures))
+slice-aggregate-run-3 c = let called = c .before .before .before .before .buffer3 in sym (length-take-le _ _ (called .ensures))
 
 run-requires : tie.Need-run-requires
 run-requires c κs = search needs
 
 returns : tie.Need-returns
 returns c = search needs
-
-returns-2 : tie.Need-returns-2
-returns-2 c = search needs
 
 pub case-spec : {M : Type 1} → statement M
 case-spec =
@@ -63,7 +57,6 @@ case-spec =
     buffer-requires-2
     slice-aggregate-buffer-3
     buffer-requires-3
-    is-there-requires
     array-share-prefix-sheet
     slice-aggregate-run
     array-borrow-prefix-second
@@ -71,5 +64,4 @@ case-spec =
     array-borrow-prefix-third
     slice-aggregate-run-3
     run-requires
-    returns
-    returns-2)
+    returns)

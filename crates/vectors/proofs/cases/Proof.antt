@@ -1,16 +1,14 @@
--- `vectors::cases`: the cases left and those skipped are at most the bound; the cases left fall.
+-- `vectors::cases`: the cases left are at most the bound, and fall.
 use borrow.Author.Needs.{needs}
-use mathlib.Core.Logic.{⊎-elim}
-use native.Mathlib.Omega.{arith}
-use Prim.Native.Nat.{_+_, _≤_}
+use Prim.Native.Nat.{_≤_}
 use Rattle.vectors.proofs.cases.Statement.{statement}
 use Rattle.vectors.proofs.cases.Tie as tie
 
 abbrev Inv-loop : tie.InvT-loop
-Inv-loop fd left₀ skipped₀ left skipped = left + skipped ≤ 100000
+Inv-loop fd left₀ left = left ≤ 100000
 
 abbrev μ-loop : tie.MeasureT-loop
-μ-loop fd left₀ skipped₀ left skipped = left
+μ-loop fd left₀ left = left
 
 loop-holds : tie.Need-loop-holds Inv-loop μ-loop
 loop-holds c = search needs
@@ -24,9 +22,6 @@ returns c = search needs
 case-requires : tie.Need-case-requires Inv-loop μ-loop
 case-requires c κs = search needs
 
-add-skipped : tie.Need-add-skipped Inv-loop μ-loop
-add-skipped c = search needs
-
 sub-left : tie.Need-sub-left Inv-loop μ-loop
 sub-left c = search needs
 
@@ -34,7 +29,7 @@ loop-less : tie.Need-loop-less Inv-loop μ-loop
 loop-less c = search needs
 
 loop-again : tie.Need-loop-again Inv-loop μ-loop
-loop-again c = ⊎-elim (λ w. omega arith) (λ w. omega arith) (c .if2 .came)
+loop-again c = search needs
 
 returns-2 : tie.Need-returns-2 Inv-loop μ-loop
 returns-2 c = search needs
@@ -49,7 +44,6 @@ cases-spec =
     byte-requires
     returns
     case-requires
-    add-skipped
     sub-left
     loop-less
     loop-again
