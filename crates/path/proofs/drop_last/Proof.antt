@@ -113,8 +113,8 @@ module _ {M : Type 1} (𝓤 : URA M) (H : Heap 𝓤) (A : Atoms 𝓤) (W : Given
       suffices ! _ (ends-at 𝓤 H A drop-last.ended stayed (drop-last.clauses 𝓤 H A mem run) W (((κ, tt), (q, tt), tt, a, vals), tt) (vint w64 (n - 1)) (n - 1) (ys, (tt, tt)) (refl, (tt, tt))) $ claims ! (more 𝓤 refl (more 𝓤 (path-top ys n within) (one 𝓤 refl))) $
       nothing ! $ move ! (2 ∷ 0 ∷ []) $ join ! $ frame ! $
       -- [what the path owns]: its slice's part is the parameter's
-      use1 W (given (T′.lowered h′ ∷ [] ≡ T′.lowered h′ ∷ []) (‵ (all-own (T.the-type α .parts) (T′.the-laws α) (x (ys), (n - 1, tt))))) (own-open 𝓤 H A W (T.the-type α) (T′.the-laws α) (x (ys), (n - 1, tt)) (T′.lowered h′)) $ learn ! (λ _. fsplit ! $
-      rewrite ! 0 (λ (k : ℕ). ‵ (MutSlice (named 0) κ u32 .own (x (ys)) (sliceVal (b, o) k ∷ []))) (refl) refl $
+      use1 W (given (T′.lowered h′ ∷ [] ≡ T′.lowered h′ ∷ []) (‵ (all-own (T.the-type α .parts) (T′.the-laws α) (x ys, (n - 1, tt))))) (own-open 𝓤 H A W (T.the-type α) (T′.the-laws α) (x ys, (n - 1, tt)) (T′.lowered h′)) $ learn ! (λ _. fsplit ! $
+      rewrite ! 0 (λ (k : ℕ). ‵ (MutSlice (named 0) κ u32 .own (x ys) (sliceVal (b, o) k ∷ []))) refl refl $
       nothing ! $ owned ! usize (Is usize) (uint-makes 𝓤 H A W w64) n _ (refl, n-fits) $ fjoin ! $ move ! (1 ∷ 0 ∷ []) $ fjoin ! $ frame ! $
       drop ! $ owned ! usize (Is usize) (uint-makes 𝓤 H A W w64) (n - 1) _ (refl, next) $ done !)
 

@@ -143,7 +143,7 @@ module _ {M : Type 1} (𝓤 : URA M) (H : Heap 𝓤) (A : Atoms 𝓤) (W : Given
         opens ! tt R {h = h ys n} b o (λ vs. spelt ! R (Is R) (shows 𝓤 H A R) (LL.vals (T.the-type α) (T′.the-laws α)) (LL.tells (T.the-type α) (T′.the-laws α)) fullShare (h ys n) vs b o $
         use1 W (‵ (fat fullShare (T′.mir erased) b o (mach n))) (W .laws .raw-at fullShare (T′.mir erased) b o (mach n)) $
         move ! (1 ∷ []) $ peeks ! R (Is R) (shows 𝓤 H A R) (h ys n) (mach n ∷ []) (λ g. move ! (1 ∷ 0 ∷ []) $
-        -- [the struct's cell; what a Path owns; the open borrow; obs; auth; the inner token; b's; _7; …; _6; …; _5; …; _4; …; _3; …; _2; …; _1; …; room for _0; …]
+        -- [the struct's cell; what a Path owns; the open borrow; obs; auth; the inner token; true; _7; …; _6; …; _5; …; _4; …; _3; …; _2; …; _1; …; room for _0; …]
         assigns ! (of-opd ! (load ! (from ! (hop ! (look ! 19 refl) (fld ! refl (stop !)))) (look-in ! 0 (sub ! 1 refl (whole !))))) (from ! (stop !)) (init ! 15 refl (tt, record { fits = n-fits g })) $
         assigns ! (of-opd ! (load ! (from ! (hop ! (look ! 19 refl) (fld ! refl (fld ! refl (stop !))))) (look-in ! 0 (sub ! 1 refl (sub ! 0 refl (whole !)))))) (from ! (stop !)) (init ! 11 refl (tt, record { fits = room g .0 })) $
         assigns ! (addr ! (from ! (hop ! (look ! 19 refl) (fld ! refl (fld ! refl (hop ! (look-in ! 0 (sub ! 0 refl (sub ! 0 refl (whole !)))) (stop !))))))) (from ! (stop !)) (init ! 9 refl (tt, tt)) $
@@ -163,7 +163,7 @@ module _ {M : Type 1} (𝓤 : URA M) (H : Heap 𝓤) (A : Atoms 𝓤) (W : Given
         -- the lifetime is ended, and the slice comes back at that list
         move ! (1 ∷ []) $ split ! $ lft-end ! tt $ move ! (0 ∷ 5 ∷ 3 ∷ []) $
         use3 W (later (‵ (MutSlice (named 1) κ′ u32 .own (x γ′ (zs .0)) (s ∷ [])) ⊛ ‵ (flft κ′ q′))) (comes-back u32 κ′ (ν ∷ []) q′ γ′ b′ o′ 𝓤 H A W (named 1) (named 0) ys δ (zs .0) (room g) l) $ await ! tt $ split ! $
-        -- [what buf's borrow owns; the inner token; …; the struct's cell; the open borrow; obs; auth; b's; _7; …; _6; …; _5; …; _4; …; _3; …; _2; …; _1; …; room for _0; …]
+        -- [what splits' borrow owns; the inner token; …; the struct's cell; the open borrow; obs; auth; true; _7; …; _6; …; _5; …; _4; …; _3; …; _2; …; _1; …; room for _0; …]
         assigns ! (of-opd ! (load ! (from ! (stop !)) (look ! 18 refl))) (from ! (hop ! (look ! 24 refl) (fld ! refl (stop !)))) (store-in ! 7 (sub ! 1 refl (whole !)) (tt, record { fits = is .1 })) $
         assigns ! (of-opd ! (unit-lit !)) (from ! (stop !)) (init ! 26 refl (tt, tt)) $
         -- the struct is put together again, at the new record, and the outer borrow is closed

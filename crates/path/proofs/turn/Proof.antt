@@ -1,4 +1,4 @@
--- `path::turn` meets its contract: a walk of its MIR, by hand. The slice's borrow goes into a `Path` in a local, as it is; the local is lent to `turn_split` by `&mut` for a lifetime of the call, and comes back (`Lending.antt`); its depth is the result.
+-- `path::turn` meets its contract: a walk of its MIR, by hand. The slice's borrow goes into a `Path` in a local, as it is; the local is lent to `turn_split` by `&mut` for a lifetime of the call, and comes back (`Lending.antt`).
 -- All that the proof knows of `turn_split` is that it meets its contract, which says the whole record, pointer and ghost name with it: so what the local holds after the call is what the parameter's borrow owns at exit.
 -- Assumes nothing.
 use mathlib.Core.Path.{_≡_, refl}
