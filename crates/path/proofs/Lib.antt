@@ -1,3 +1,4 @@
 pub mod Splits
 pub mod Within
 mod Joining
+mod Lending

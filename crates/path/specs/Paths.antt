@@ -1,14 +1,16 @@
 -- How the splits above a record are kept in lent numbers, `splitLength` to a split, the root's first. For the contracts of the code; what a
 -- split and its branches are stands in the definitions of refutations.
-use Prim.Native.Nat.{ℕ, zero, suc, _+_, _*_, _≤_, _<_}
+use Prim.Native.Nat.{ℕ, zero, suc, _+_, _*_, _-_, _≤_, _<_}
 use mathlib.Core.Bool.{cond}
 use mathlib.Core.List.{List, [], _∷_}
-use lib.ListN.{length, getD}
+use lib.ListN.{length, getD, set}
+use denote.Ref.{now, at-last}
 use Rattle.sheet.specs.Format.{mostLots}
 use Rattle.sheet.specs.Conditions.{Term, same, apart, termOf}
 use Rattle.refutation.specs.Refutation.{Split, Nearest, noSplit, sameSplit}
 use Rattle.path.specs.declared.Split as declared
 use Rattle.path.specs.declared.Pair as declared-pair
+use Rattle.path.specs.declared.Path as declared-path
 
 -- The numbers of a split: its record number, its next, the branch taken, and its lots as written in the record.
 abbrev pub splitLength : ℕ
@@ -66,3 +68,32 @@ splitOf s = record { number = s .number .0; next = s .next .0; decision = same (
 -- The decision that a pair of the path stands for.
 abbrev pub decisionOf : declared-pair.Pair → Term
 decisionOf p = cond (p .same) (same (p .a .0) (p .b .0)) (apart (p .a .0) (p .b .0))
+
+-- ---- the lent path
+
+-- The numbers, once a split is written after the first `depth` splits, in its same branch.
+abbrev pub pushedAt : List ℕ → ℕ → declared.Split → List ℕ
+pushedAt l depth s =
+    set
+    (set
+    (set
+    (set
+    (set l (splitLength * depth) (s .number .0))
+    (splitLength * depth + 1) (s .next .0))
+    (splitLength * depth + 2) sameBranch)
+    (splitLength * depth + 3) (s .a .0))
+    (splitLength * depth + 4) (s .b .0)
+
+-- The numbers, once the top split is in its apart branch.
+abbrev pub turnedAt : List ℕ → ℕ → List ℕ
+turnedAt l depth = set l (splitLength * (depth - 1) + 2) apartBranch
+
+-- The same of the path as it is lent: the same borrow, at the new numbers and the new number of splits.
+abbrev pub pushedPath : declared-path.Path → declared.Split → declared-path.Path
+pushedPath p s = record { splits = at-last (p .splits) (pushedAt (now (p .splits)) (p .depth) s); depth = p .depth + 1 }
+
+abbrev pub turnedPath : declared-path.Path → declared-path.Path
+turnedPath p = record { splits = at-last (p .splits) (turnedAt (now (p .splits)) (p .depth)); depth = p .depth }
+
+abbrev pub droppedPath : declared-path.Path → declared-path.Path
+droppedPath p = record { splits = p .splits; depth = p .depth - 1 }

@@ -1,5 +1,5 @@
 // The splits above a record of a list of records, with the branch taken at each, in lent numbers: the path that a checker of the list keeps. The
-// functions take the numbers and how many splits there are; the room is the slice's length.
+// functions take the numbers and how many splits there are; the room is the slice's length. What changes the path goes through `Path`, lent by `&mut`.
 ghost use mathlib.Core.Path.{_≡_};
 ghost use mathlib.Core.List.{_∷_};
 ghost use Prim.Native.Nat.{_+_, _*_, _-_, _≤_, _<_};
@@ -8,6 +8,7 @@ ghost use Rattle.sheet.specs.Format.{mostLots};
 ghost use Rattle.equality.specs.Node.{classes};
 ghost use Rattle.refutation.specs.Refutation.{decisionsOf, nearest, turned};
 ghost use Rattle.path.specs.Paths.{splitLength, splitIn, firstLotIn, secondLotIn, pathOf, PathWithin, nearestAs, splitOf, decisionOf};
+ghost use Rattle.path.specs.Paths.{pushedAt, turnedAt, pushedPath, turnedPath, droppedPath};
 use classes::Classes;
 use sheet::Lot;
 use store::NodeNumber;
@@ -36,19 +37,73 @@ pub struct Pair {
     pub b: Lot,
 }
 
-// A split goes on top, in its same branch.
+// The path that is lent: its numbers, and how many splits there are.
+pub struct Path<'a> {
+    pub splits: &'a mut [u32],
+    pub depth: usize,
+}
+
+// The numbers, with a split on top in its same branch.
+fn push_at(splits: &mut [u32], depth: usize, split: Split) -> usize
+    requires { ⌜ splitLength * depth + splitLength ≤ length (now splits) ⌝ }
+    ensures { λ r. ⌜ (r ≡ depth + 1) × (now (splits .exit) ≡ pushedAt (now (splits .entry)) depth split) ⌝ }
+{
+    let at = SPLIT_LENGTH * depth;
+    splits[at] = split.number.0;
+    splits[at + 1] = split.next.0;
+    splits[at + 2] = SAME;
+    splits[at + 3] = split.a.0 as u32;
+    splits[at + 4] = split.b.0 as u32;
+    depth + 1
+}
+
+// The numbers, with the top split in its apart branch.
+fn turn_at(splits: &mut [u32], depth: usize)
+    requires { ⌜ (0 < depth) × (splitLength * depth ≤ length (now splits)) ⌝ }
+    ensures { λ _. ⌜ now (splits .exit) ≡ turnedAt (now (splits .entry)) depth ⌝ }
+{
+    splits[SPLIT_LENGTH * (depth - 1) + 2] = APART;
+}
+
+// A split goes on top of the lent path, in its same branch.
+pub fn push_split<'s, 'a>(p: &'s mut Path<'a>, split: Split)
+    requires { ⌜ splitLength * (now p .depth) + splitLength ≤ length (now (now p .splits)) ⌝ }
+    ensures { λ _. ⌜ now (p .exit) ≡ pushedPath (now (p .entry)) split ⌝ }
+{
+    let depth = p.depth;
+    let next = push_at(&mut *p.splits, depth, split);
+    p.depth = next;
+}
+
+// The top split of the lent path goes to its apart branch.
+pub fn turn_split<'s, 'a>(p: &'s mut Path<'a>)
+    requires { ⌜ (0 < now p .depth) × (splitLength * (now p .depth) ≤ length (now (now p .splits))) ⌝ }
+    ensures { λ _. ⌜ now (p .exit) ≡ turnedPath (now (p .entry)) ⌝ }
+{
+    let depth = p.depth;
+    turn_at(&mut *p.splits, depth);
+}
+
+// The top split of the lent path is dropped: its numbers stay, and count no more.
+pub fn drop_split<'s, 'a>(p: &'s mut Path<'a>)
+    requires { ⌜ 0 < now p .depth ⌝ }
+    ensures { λ _. ⌜ now (p .exit) ≡ droppedPath (now (p .entry)) ⌝ }
+{
+    p.depth = p.depth - 1;
+}
+
+// A split goes on top, in its same branch: the numbers are lent as a path, and the new number of splits is handed back.
 pub fn push(path: &mut [u32], depth: usize, split: Split) -> usize
     requires { ⌜ splitLength * depth + splitLength ≤ length (now path) ⌝ }
     ensures depth { λ r. ⌜ r ≡ depth + 1 ⌝ }
     ensures path { λ r. ⌜ pathOf (now (path .exit)) r ≡ splitOf split ∷ pathOf (now (path .entry)) depth ⌝ }
 {
-    let at = SPLIT_LENGTH * depth;
-    path[at] = split.number.0;
-    path[at + 1] = split.next.0;
-    path[at + 2] = SAME;
-    path[at + 3] = split.a.0 as u32;
-    path[at + 4] = split.b.0 as u32;
-    depth + 1
+    let mut p = Path {
+        splits: path,
+        depth,
+    };
+    push_split(&mut p, split);
+    p.depth
 }
 
 // The top split goes to its apart branch.
@@ -58,16 +113,26 @@ pub fn turn(path: &mut [u32], depth: usize)
         ≡ turned (splitIn (now (path .entry)) (depth - 1)) (firstLotIn (now (path .entry)) (depth - 1)) (secondLotIn (now (path .entry)) (depth - 1))
         ∷ pathOf (now (path .entry)) (depth - 1) ⌝ }
 {
-    path[SPLIT_LENGTH * (depth - 1) + 2] = APART;
+    let mut p = Path {
+        splits: path,
+        depth,
+    };
+    turn_split(&mut p);
 }
 
 // The top split is dropped: its numbers stay, and count no more.
-pub fn drop_last(path: &[u32], depth: usize) -> usize
+pub fn drop_last(path: &mut [u32], depth: usize) -> usize
     requires { ⌜ 0 < depth ⌝ }
     ensures depth { λ r. ⌜ r ≡ depth - 1 ⌝ }
-    ensures path { λ r. ⌜ pathOf (now (path .entry)) depth ≡ splitIn (now (path .entry)) r ∷ pathOf (now (path .entry)) r ⌝ }
+    ensures path { λ r. ⌜ pathOf (now (path .entry)) depth ≡ splitIn (now (path .entry)) r ∷ pathOf (now (path .exit)) r ⌝ }
+    ensures numbers { λ _. ⌜ now (path .exit) ≡ now (path .entry) ⌝ }
 {
-    depth - 1
+    let mut p = Path {
+        splits: path,
+        depth,
+    };
+    drop_split(&mut p);
+    p.depth
 }
 
 // The nearest split still in its same branch: how many splits stand above and with it, or 0 where there is none. Those nearer are over.
