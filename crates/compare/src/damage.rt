@@ -1,0 +1,79 @@
+// Damaged refutations: each byte of a list, and each byte of its sheet, changed in three ways. A list that passes for a sheet that the second solver can
+// meet is wrong.
+use crate::partitions;
+use crate::raw;
+use crate::services;
+use crate::tally::Damage;
+
+// A byte changed: one more, or its lowest or its highest bit turned.
+fn changed(byte: u8, way: u8) -> u8 {
+    if way == 1 {
+        byte ^ 1
+    } else if way == 2 {
+        byte ^ 128
+    } else if byte == 255 {
+        0
+    } else {
+        byte + 1
+    }
+}
+
+// What the checker says as the two stand now.
+fn judged(sheet: &[u8], list: &[u8], damage: Damage) -> Damage {
+    let passed = services::passes(sheet, list);
+    damage.count(passed, passed && partitions::can_be_met(sheet))
+}
+
+// One byte of the list changed in one way, and then put back.
+fn list_byte(sheet: &[u8], list: &mut [u8], at: usize, way: u8, damage: Damage) -> Damage {
+    let byte = raw::byte_at(list, at);
+    raw::put(list, at, changed(byte, way));
+    let after = judged(sheet, list, damage);
+    raw::put(list, at, byte);
+    after
+}
+
+// One byte of the sheet changed in one way, and then put back.
+fn sheet_byte(sheet: &mut [u8], list: &[u8], at: usize, way: u8, damage: Damage) -> Damage {
+    let byte = raw::byte_at(sheet, at);
+    raw::put(sheet, at, changed(byte, way));
+    let after = judged(sheet, list, damage);
+    raw::put(sheet, at, byte);
+    after
+}
+
+// Every byte of the list.
+pub fn lists(sheet: &[u8], list: &mut [u8], damage: Damage) -> Damage {
+    let mut now = damage;
+    let mut at = list.len();
+    while 0 < at {
+        at -= 1;
+        now = list_byte(sheet, list, at, 0, now);
+        now = list_byte(sheet, list, at, 1, now);
+        now = list_byte(sheet, list, at, 2, now);
+    }
+    now
+}
+
+// Every byte of the sheet.
+fn sheets(sheet: &mut [u8], list: &[u8], damage: Damage) -> Damage {
+    let mut now = damage;
+    let mut at = sheet.len();
+    while 0 < at {
+        at -= 1;
+        now = sheet_byte(sheet, list, at, 0, now);
+        now = sheet_byte(sheet, list, at, 1, now);
+        now = sheet_byte(sheet, list, at, 2, now);
+    }
+    now
+}
+
+// Every byte of the sheet, in a copy. No sheet with six lots that is damaged here has 1,024 bytes.
+pub fn copied(sheet: &[u8], list: &[u8], damage: Damage) -> Damage {
+    let mut copy = [0u8; 1024];
+    if 1024 < sheet.len() {
+        return damage;
+    }
+    let n = bytes::copy(sheet, &mut copy);
+    sheets(&mut copy[..n], list, damage)
+}

@@ -1,0 +1,127 @@
+// Sheets from a fixed generator of numbers, each with 1 to 6 lots and 1 to 8 conditions of 1 to 4 terms. The records of a condition follow each other, in
+// the order of the conditions.
+use crate::raw;
+
+// The generator's state, and the records made so far.
+struct Made {
+    state: u64,
+    terms: u16,
+}
+
+// The generator's next state, below 2 to the power 31.
+fn following(state: u64) -> u64 {
+    ((state % 2147483648) * 1103515245 + 12345) % 2147483648
+}
+
+// A number below a bound, from the state's upper bits.
+fn below(state: u64, bound: u16) -> u16 {
+    if bound == 0 {
+        return 0;
+    }
+    (((state / 65536) % 32768) as u16) % bound
+}
+
+// A number from 1 to a bound.
+fn from_one(state: u64, bound: u16) -> u16 {
+    let x = below(state, bound);
+    if x < 32768 { x + 1 } else { 1 }
+}
+
+fn put_term(sheet: &mut [u8], m: u16, r: u16, sign: u8, a: u16, b: u16, next: u16) {
+    raw::put(sheet, raw::term_field(m, r, 0), sign);
+    raw::put(sheet, raw::term_field(m, r, 1), 0);
+    raw::put_number(sheet, raw::term_field(m, r, 2), a);
+    raw::put_number(sheet, raw::term_field(m, r, 4), b);
+    raw::put_number(sheet, raw::term_field(m, r, 6), next);
+}
+
+// Three signs of five are "same".
+fn sign_of(state: u64) -> u8 {
+    if below(state, 5) < 3 { 1 } else { 2 }
+}
+
+// A term, as record r, from a state on; the state after it.
+fn make_term(sheet: &mut [u8], n: u16, m: u16, r: u16, next: u16, state: u64) -> u64 {
+    let sign = following(state);
+    let a = following(sign);
+    let b = following(a);
+    put_term(
+        sheet,
+        m,
+        r,
+        sign_of(sign),
+        from_one(a, n),
+        from_one(b, n),
+        next,
+    );
+    b
+}
+
+// A term more, at the record after those that are made; the last of its chain or not.
+fn add_term(sheet: &mut [u8], n: u16, m: u16, made: Made, last: bool) -> Made {
+    if 1023 < made.terms {
+        return made;
+    }
+    let r = made.terms + 1;
+    let next = if last { 0 } else { r + 1 };
+    Made {
+        state: make_term(sheet, n, m, r, next, made.state),
+        terms: r,
+    }
+}
+
+// So many terms of one condition.
+fn add_terms(sheet: &mut [u8], n: u16, m: u16, count: u16, first: Made) -> Made {
+    let mut made = first;
+    let mut left = count;
+    while 0 < left {
+        left -= 1;
+        made = add_term(sheet, n, m, made, left == 0);
+    }
+    made
+}
+
+// A condition more: its head, and its terms.
+fn add_condition(sheet: &mut [u8], n: u16, m: u16, c: u16, made: Made) -> Made {
+    if 1023 < made.terms {
+        return made;
+    }
+    raw::put_number(sheet, 6 + 2 * (c as usize), made.terms + 1);
+    let chosen = following(made.state);
+    let first = Made {
+        state: chosen,
+        terms: made.terms,
+    };
+    add_terms(sheet, n, m, from_one(chosen, 4), first)
+}
+
+// All m conditions of n lots, one after the other.
+fn add_conditions(sheet: &mut [u8], n: u16, m: u16, state: u64) -> Made {
+    let mut made = Made { state, terms: 0 };
+    let mut c: u16 = 0;
+    while c < m {
+        made = add_condition(sheet, n, m, c, made);
+        c += 1;
+    }
+    made
+}
+
+// The sheet from a state on, at the start of the bytes; the state after it.
+pub fn sheet_from(sheet: &mut [u8], state: u64) -> u64 {
+    let lots = following(state);
+    let conditions = following(lots);
+    let n = from_one(lots, 6);
+    let m = from_one(conditions, 8);
+    let made = add_conditions(sheet, n, m, conditions);
+    raw::put_number(sheet, 0, n);
+    raw::put_number(sheet, 2, m);
+    raw::put_number(sheet, 4, made.terms);
+    made.state
+}
+
+// The length that a sheet's first bytes give it.
+pub fn length_of(sheet: &[u8]) -> usize {
+    let m = raw::number_at(sheet, 2) as usize;
+    let k = raw::number_at(sheet, 4) as usize;
+    6 + 2 * m + 8 * k
+}

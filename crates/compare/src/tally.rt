@@ -1,0 +1,65 @@
+// What is counted.
+
+// Of a group of sheets: how many there are, how many of each verdict, and how many on which two answers differ.
+pub struct Tally {
+    pub sheets: u32,
+    pub met: u32,
+    pub cannot: u32,
+    pub refused: u32,
+    pub differ: u32,
+}
+
+// Of damaged lists or sheets: how many were tried, how many passed the checker all the same, and how many of those are wrong.
+pub struct Damage {
+    pub tried: u32,
+    pub passed: u32,
+    pub wrong: u32,
+}
+
+// One more where it is so. There are fewer than a million of anything.
+fn plus(x: u32, so: bool) -> u32 {
+    if !so {
+        return x;
+    }
+    if x < 1000000 { x + 1 } else { x }
+}
+
+impl Tally {
+    pub fn new() -> Tally {
+        Tally {
+            sheets: 0,
+            met: 0,
+            cannot: 0,
+            refused: 0,
+            differ: 0,
+        }
+    }
+
+    pub fn count(self, kind: u8, differs: bool) -> Tally {
+        Tally {
+            sheets: plus(self.sheets, true),
+            met: plus(self.met, kind == 1),
+            cannot: plus(self.cannot, kind == 2),
+            refused: plus(self.refused, kind == 3),
+            differ: plus(self.differ, differs),
+        }
+    }
+}
+
+impl Damage {
+    pub fn new() -> Damage {
+        Damage {
+            tried: 0,
+            passed: 0,
+            wrong: 0,
+        }
+    }
+
+    pub fn count(self, passed: bool, wrong: bool) -> Damage {
+        Damage {
+            tried: plus(self.tried, true),
+            passed: plus(self.passed, passed),
+            wrong: plus(self.wrong, wrong),
+        }
+    }
+}

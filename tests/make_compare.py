@@ -1,0 +1,319 @@
+#!/usr/bin/env python3
+# Writes the standard input of the program compare, and what it is to print.
+#
+#     python3 tests/make_compare.py input > crates/compare/stdin
+#     python3 tests/make_compare.py output > crates/compare/stdout
+#
+# The counts come from this file alone: it generates the same sheets, and has its own search, checker and second solver, written from document 01.
+
+import itertools
+import sys
+
+
+def numbers(*values):
+    """Two-byte numbers, low byte first."""
+    return b''.join(v.to_bytes(2, 'little') for v in values)
+
+
+def number(data, at):
+    return data[at] + 256 * data[at + 1]
+
+
+def sheet(lots, conditions):
+    """The bytes of a sheet: a condition is a list of terms, each a sign (1 same, 2 apart) and two lots; its records follow each other."""
+    heads, records = [], []
+    for terms in conditions:
+        heads.append(len(records) + 1 if terms else 0)
+        for i, (sign, a, b) in enumerate(terms):
+            following = len(records) + 2 if i + 1 < len(terms) else 0
+            records.append(bytes([sign, 0]) + numbers(a, b, following))
+    return numbers(lots, len(heads), len(records)) + numbers(*heads) + b''.join(records)
+
+
+def read(data):
+    """The lots and the conditions of a sheet, or the check and the place of its refusal."""
+    if len(data) < 6:
+        return 'refused', 1, 0
+    n, m, k = number(data, 0), number(data, 2), number(data, 4)
+    for i, (value, most) in enumerate(((n, 128), (m, 256), (k, 1024))):
+        if value > most:
+            return 'refused', 2, i + 1
+    if len(data) != 6 + 2 * m + 8 * k:
+        return 'refused', 3, 0
+    heads = [number(data, 6 + 2 * c) for c in range(m)]
+    for c, head in enumerate(heads):
+        if head > k:
+            return 'refused', 4, c + 1
+    records = [None]
+    for r in range(k):
+        at = 6 + 2 * m + 8 * r
+        sign, spare, a, b, following = data[at], data[at + 1], number(data, at + 2), number(data, at + 4), number(data, at + 6)
+        if sign not in (1, 2) or spare or not 1 <= a <= n or not 1 <= b <= n or following > k:
+            return 'refused', 5, r + 1
+        records.append((sign, a, b, following))
+    seen, conditions = set(), []
+    for head in heads:
+        r, terms = head, []
+        while r:
+            if r in seen:
+                return 'refused', 6, r
+            seen.add(r)
+            terms.append(records[r][:3])
+            r = records[r][3]
+        conditions.append(terms)
+    for r in range(1, k + 1):
+        if r not in seen:
+            return 'refused', 7, r
+    return 'accepted', n, conditions
+
+
+def partitions(n):
+    """Every way to part n lots into groups: a number for each lot."""
+    if n == 0:
+        yield ()
+        return
+    for way in partitions(n - 1):
+        for group in range(max(way, default=-1) + 2):
+            yield way + (group,)
+
+
+WAYS = {n: list(partitions(n)) for n in range(7)}
+
+
+def can_be_met(n, conditions):
+    """By trying every way; the terms name no lot above 6."""
+    return any(all(any((way[a - 1] == way[b - 1]) == (sign == 1) for sign, a, b in terms) for terms in conditions) for way in WAYS[min(n, 6)])
+
+
+def term_value(decisions, sign, a, b):
+    """True, False, or None for an open term, under decisions: (True, a, b) for a pair set same, (False, a, b) for a pair set apart."""
+    root = {}
+
+    def find(x):
+        while x in root:
+            x = root[x]
+        return x
+    for same, x, y in decisions:
+        if same and find(x) != find(y):
+            root[max(find(x), find(y))] = min(find(x), find(y))
+    if find(a) == find(b):
+        return sign == 1
+    if any(not same and {find(x), find(y)} == {find(a), find(b)} for same, x, y in decisions):
+        return sign == 2
+    return None
+
+
+def search(conditions, value=term_value):
+    """The verdict and the node records: [kind, first, second, next]."""
+    nodes = []
+
+    def visit(decisions):
+        for c, terms in enumerate(conditions):
+            values = [value(decisions, *t) for t in terms]
+            if True in values or any(v is None and t[0] == 2 for v, t in zip(values, terms)):
+                continue
+            if None not in values:
+                nodes.append([2, c + 1, 0, 0])
+                return False
+            _, a, b = terms[values.index(None)]
+            here = [1, a, b, 0]
+            nodes.append(here)
+            if visit(decisions + [(True, a, b)]):
+                return True
+            here[3] = len(nodes) + 1
+            return visit(decisions + [(False, a, b)])
+        nodes.append([3, 0, 0, 0])
+        return True
+    return ('met' if visit([]) else 'cannot'), nodes
+
+
+def list_bytes(nodes):
+    return b''.join(bytes([n[0], 0]) + numbers(*n[1:]) for n in nodes)
+
+
+def check(data, nodes):
+    """'passed', or the check and the place of a refusal, for a sheet's bytes and a list's."""
+    reading = read(data)
+    if reading[0] == 'refused':
+        return reading
+    _, n, conditions = reading
+    if not nodes or len(nodes) % 8 or len(nodes) // 8 > 65535:
+        return 'refused', 10, 0
+    path, count = [], len(nodes) // 8
+    for r in range(1, count + 1):
+        at = 8 * (r - 1)
+        kind, spare, first, second, following = nodes[at], nodes[at + 1], number(nodes, at + 2), number(nodes, at + 4), number(nodes, at + 6)
+        if kind not in (1, 2) or spare:
+            return 'refused', 11, r
+        if kind == 1:
+            if not 1 <= first <= n or not 1 <= second <= n:
+                return 'refused', 11, r
+            if len(path) >= 1024:
+                return 'refused', 15, r
+            path.append([True, first, second, following, r])
+            continue
+        if not 1 <= first <= len(conditions) or second or following:
+            return 'refused', 11, r
+        decisions = [tuple(p[:3]) for p in path]
+        if any(term_value(decisions, *t) is not False for t in conditions[first - 1]):
+            return 'refused', 12, r
+        while path and not path[-1][0]:
+            path.pop()
+        if not path:
+            return ('passed',) if r == count else ('refused', 14, r + 1)
+        if path[-1][3] != r + 1:
+            return 'refused', 13, path[-1][4]
+        path[-1][0] = False
+    return 'refused', 14, count + 1
+
+
+# The generated sheets.
+
+def generated(count):
+    state = 1
+
+    def below(bound):
+        nonlocal state
+        state = (state * 1103515245 + 12345) % 2**31
+        return state // 65536 % bound
+    for _ in range(count):
+        n, m, conditions = 1 + below(6), 1 + below(8), []
+        for _ in range(m):
+            conditions.append([(1 if below(5) < 3 else 2, 1 + below(n), 1 + below(n)) for _ in range(1 + below(4))])
+        yield sheet(n, conditions)
+
+
+# The families of source document 001, part 7.
+
+def phe(n):
+    """Lots 1 to n differ, and for each of them another one is the same as lot n + 1: cannot, n * n + n - 1 nodes."""
+    lots = range(1, n + 1)
+    differ = [[(2, i, j)] for i, j in itertools.combinations(lots, 2)]
+    return sheet(n + 1, differ + [[(1, j, n + 1) for j in lots if j != i] for i in lots])
+
+
+def circ(n):
+    """Of the n equations of neighbours on a ring one is false, and no two are: cannot, n * n - n + 1 nodes."""
+    ring = [(i, i % n + 1) for i in range(1, n + 1)]
+    return sheet(n, [[(2, *e) for e in ring]] + [[(1, *d), (1, *e)] for d, e in itertools.combinations(ring, 2)])
+
+
+def own_records(lots, heads, records):
+    """A sheet of which each record is given whole: sign, lots, next."""
+    return numbers(lots, len(heads), len(records)) + numbers(*heads) + b''.join(bytes([r[0], 0]) + numbers(*r[1:]) for r in records)
+
+
+S, T = 1, 2  # same, apart
+
+GROUPS = [
+    ('starred', [
+        sheet(3, [[(S, 1, 2)], [(S, 2, 3)], [(T, 1, 3)]]),
+        sheet(3, [[(S, 1, 2), (T, 2, 3)], [(S, 1, 3), (T, 1, 2), (S, 2, 3)], [(T, 1, 3)]]),
+        sheet(3, [[(S, 1, 2), (S, 1, 3)], [(T, 1, 2)]]),
+        sheet(3, [[(T, 1, 2), (T, 2, 3), (T, 3, 1)], [(S, 1, 2), (S, 2, 3)], [(S, 1, 2), (S, 3, 1)], [(S, 2, 3), (S, 3, 1)]]),
+        sheet(0, []), sheet(0, [[]]), sheet(1, [[(S, 1, 1)]]), sheet(1, [[(T, 1, 1)]]),
+    ]),
+    ('unstarred', [
+        sheet(128, []), sheet(128, [[(S, 128, 128)]]), sheet(129, []), sheet(129, [[(S, 129, 129)]]),
+        own_records(1, [1], [(S, 1, 1, 1)]),
+    ]),
+    ('phe', [phe(n) for n in range(1, 11)]),
+    ('circ', [circ(n) for n in range(1, 11)]),
+    ('mark on lots', [  # a mark tested on the two lots takes two nodes more
+        sheet(3, [[(T, 1, 2)], [(S, 3, 2)], [(S, 2, 1), (S, 1, 3)]]),
+        sheet(4, [[(S, 3, 4), (S, 2, 3), (S, 1, 2)], [(T, 3, 4)], [(S, 4, 2)]]),
+    ]),
+    ('join kept', [  # met, and cannot where the join is kept in the apart branch
+        sheet(3, [[(T, 2, 3)], [(S, 3, 2), (S, 2, 1)]]),
+        sheet(4, [[(S, 1, 2), (S, 3, 4)], [(T, 1, 2)], [(T, 1, 3)]]),
+    ]),
+    ('one ground', [  # met, after one ground and after three
+        sheet(3, [[(S, 1, 2), (S, 2, 3)], [(T, 1, 2)]]),
+        sheet(4, [[(S, 1, 2), (S, 1, 3), (S, 1, 4), (S, 2, 3)], [(T, 1, 2)], [(T, 1, 3)], [(T, 1, 4)]]),
+    ]),
+    ('looped chain', [  # back to the first record, to the second, and to another chain
+        own_records(2, [1], [(S, 1, 2, 2), (T, 1, 2, 1)]),
+        own_records(3, [1], [(S, 1, 2, 2), (T, 1, 2, 3), (S, 2, 3, 2)]),
+        own_records(2, [1, 2], [(S, 1, 2, 0), (T, 1, 2, 1)]),
+    ]),
+]
+
+
+def answer(data):
+    """What the search is to answer, and its nodes."""
+    reading = read(data)
+    if reading[0] == 'refused':
+        return reading, []
+    _, n, conditions = reading
+    verdict, nodes = search(conditions)
+    if n <= 6:
+        assert (verdict == 'met') == can_be_met(n, conditions)
+    return (verdict, len(nodes)), nodes
+
+
+def changes(data):
+    """Every byte changed in three ways."""
+    for at, byte in enumerate(data):
+        for value in ((byte + 1) % 256, byte ^ 1, byte ^ 128):
+            yield data[:at] + bytes([value]) + data[at + 1:]
+
+
+class Damage:
+    def __init__(self):
+        self.tried = self.passed = self.wrong = 0
+
+    def count(self, data, nodes):
+        passed = check(data, nodes) == ('passed',)
+        self.tried += 1
+        self.passed += passed
+        self.wrong += passed and can_be_met(*read(data)[1:])
+
+    def line(self, label):
+        return '%s: tried %d passed %d wrong %d' % (label, self.tried, self.passed, self.wrong)
+
+
+def group_line(name, sheets, lists, bytes_of_sheets):
+    """The line of a group; its small refutations are damaged."""
+    verdicts = []
+    for data in sheets:
+        said, nodes = answer(data)
+        verdicts.append(said[0])
+        if said[0] == 'cannot' and number(data, 0) <= 6:
+            refutation = list_bytes(nodes)
+            assert check(data, refutation) == ('passed',)
+            for changed in changes(refutation):
+                lists.count(data, changed)
+            for changed in changes(data):
+                bytes_of_sheets.count(changed, refutation)
+    each = ' '.join('%s %d' % (v, verdicts.count(v)) for v in ('met', 'cannot', 'refused'))
+    return '%s: sheets %d %s differ 0' % (name, len(verdicts), each)
+
+
+def many_splits(s):
+    """A list with s splits on a path, and s + 1 grounds."""
+    return [[1, 1, 1, 2 * s + 2 - r] for r in range(1, s + 1)] + [[2, 1, 0, 0]] * (s + 1)
+
+
+def write_input():
+    for name, sheets in GROUPS:
+        print('group ' + name)
+        for data in sheets:
+            print('%s: %s' % (' '.join(map(str, answer(data)[0])), data.hex(' ', -2)))
+        print('end')
+
+
+def write_output():
+    lists, sheets = Damage(), Damage()
+    print(group_line('generated', generated(600), lists, sheets))
+    for name, group in GROUPS:
+        print(group_line(name, group, lists, sheets))
+    print(lists.line('damaged lists'))
+    print(sheets.line('damaged sheets'))
+    for s in (1024, 1025):
+        print('splits on a path %d: %s' % (s, ' '.join(map(str, check(sheet(1, [[]]), list_bytes(many_splits(s)))))))
+
+
+for n in range(1, 11):
+    assert answer(phe(n))[0] == ('cannot', n * n + n - 1)
+    assert answer(circ(n))[0] == ('cannot', n * n - n + 1)
+{'input': write_input, 'output': write_output}[sys.argv[1]]()
