@@ -1,4 +1,3 @@
 pub mod Splits
 pub mod Within
 mod Joining
-mod Lending

@@ -19,3 +19,4 @@ pub mod Canonical
 mod Tests
 mod Marks
 mod WalkLoops
+pub mod Lending

@@ -1,4 +1,4 @@
--- `chain::term_at` meets its contract: a walk of its MIR, by hand. A `Chain` is made in a local, of the slice and the record number; the local is lent to `advance` by `&mut` for a lifetime of the call, and comes back (`Loan.antt`); the term is the result.
+-- `chain::term_at` meets its contract: a walk of its MIR, by hand. A `Chain` is made in a local, of the slice and the record number; the local is lent to `advance` by `&mut` for a lifetime of the call, and comes back (`Lending.antt`); the term is the result.
 -- A `&[u8]` is Copy, so what it owns is had twice: once for sheet at exit, and once inside the local. All that the proof knows of `advance` is that it meets its contract.
 use mathlib.Core.Path.{_≡_, refl}
 use Prim.Native.Nat.{ℕ, _<_, _^_}
@@ -52,7 +52,7 @@ use Rattle.sheet.proofs.Record as N
 use Rattle.sheet.proofs.Record.Laws as N′
 use Rattle.sheet.proofs.Term as S
 use Rattle.sheet.proofs.Term.Laws as S′
-use Rattle.chain.proofs.Loan.{lies-in, lies-out, Kept, bounds-hold, lends-local, local-back}
+use Rattle.sheet.proofs.Lending.{lies-in, lies-out, Kept, bounds-hold, lends-local, local-back}
 use Rattle.chain.proofs.advance as advance
 use Rattle.chain.proofs.advance.Symbol as advance-def
 use Rattle.chain.proofs.advance.Symbol.{name as #chain·advance}

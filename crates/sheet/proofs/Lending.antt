@@ -1,4 +1,4 @@
--- What is lent by `&mut` for one call, and comes back: laws of the logic, for any type; they say nothing of paths.
+-- What is lent by `&mut` for one call, and comes back: laws of the logic, for any type; they say nothing of sheets.
 --     LentAgain           what the holder of a `&κ mut [T]` keeps while it is lent again for κ′ under the name γ₁
 --     lends-again         own (the `&κ mut [T]` ((b, o), γ, ys)) ∗ [κ]_q  ⊢ ⇛ ∃ γ₁. own (the `&κ′ mut [T]` ((b, o), γ₁, ys)) ∗ LentAgain γ₁
 --     comes-back          given `Room`, and zs as long as ys:  [†κ′] ∗ LentAgain γ₁ ∗ finally γ₁ zs  ⊢ ⇛ (own (the `&κ mut [T]` ((b, o), γ, zs)) ∗ [κ]_q)
