@@ -274,10 +274,11 @@ class Damage:
 
 def group_line(name, sheets, lists, bytes_of_sheets):
     """The line of a group; its small refutations are damaged."""
-    verdicts = []
+    verdicts, count = [], 0
     for data in sheets:
         said, nodes = answer(data)
         verdicts.append(said[0])
+        count += len(nodes)
         if said[0] == 'cannot' and number(data, 0) <= 6:
             refutation = list_bytes(nodes)
             assert check(data, refutation) == ('passed',)
@@ -286,7 +287,7 @@ def group_line(name, sheets, lists, bytes_of_sheets):
             for changed in changes(data):
                 bytes_of_sheets.count(changed, refutation)
     each = ' '.join('%s %d' % (v, verdicts.count(v)) for v in ('met', 'cannot', 'refused'))
-    return '%s: sheets %d %s differ 0' % (name, len(verdicts), each)
+    return '%s: sheets %d %s nodes %d differ 0' % (name, len(verdicts), each, count)
 
 
 def many_splits(s):
