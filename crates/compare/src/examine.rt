@@ -23,8 +23,8 @@ pub fn new_group(lists: Damage, sheets: Damage) -> Counts {
     }
 }
 
-// A sheet through the search, the two other services and the second solver. `wanted` is the answer that the search is to give; its kind is 0 where only the
-// second solver knows.
+// A sheet through the search, the two other services and the second solver. `wanted` is the answer that the search is to give; its kind is 0 for a sheet
+// that must be accepted and whose verdict only the second solver knows.
 pub fn examine(sheet: &[u8], wanted: Answer, counts: Counts) -> Counts {
     let mut grouping = [0u8; 128];
     let mut store = [0u8; 4096];
@@ -47,9 +47,10 @@ pub fn examine(sheet: &[u8], wanted: Answer, counts: Counts) -> Counts {
     }
 }
 
+// Whether the answer is the one wanted.
 fn expected(answer: Answer, wanted: Answer) -> bool {
     if wanted.kind == 0 {
-        return true;
+        return answer.kind < 3;
     }
     answer.kind == wanted.kind && answer.first == wanted.first && answer.second == wanted.second
 }
@@ -66,6 +67,7 @@ fn damaged(sheet: &[u8], store: &mut [u8], count: u32, counts: Counts) -> Counts
     damaged_both(sheet, &mut store[..length], counts)
 }
 
+// The list in three ways a byte, then the sheet.
 fn damaged_both(sheet: &[u8], list: &mut [u8], counts: Counts) -> Counts {
     let tally = counts.tally;
     let lists = damage::lists(sheet, list, counts.lists);

@@ -1,6 +1,4 @@
 // The groups of sheets: the generated ones, and those of standard input.
-ghost use Prim.Native.Nat.{_≤_};
-ghost use lib.ListN.{length};
 use crate::examine;
 use crate::examine::Counts;
 use crate::generate;
