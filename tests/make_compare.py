@@ -103,8 +103,16 @@ def term_value(decisions, sign, a, b):
     return None
 
 
-def search(conditions, value=term_value):
-    """The verdict and the node records: [kind, first, second, next]."""
+def value_by_lots(decisions, sign, a, b):
+    """A wrong turn: a mark is tested on the two lots and not on their consignments."""
+    joined = term_value([d for d in decisions if d[0]], sign, a, b)
+    if joined is None and any(not same and {x, y} == {a, b} for same, x, y in decisions):
+        return sign == 2
+    return joined
+
+
+def search(conditions, value=term_value, kept=False):
+    """The verdict and the node records: [kind, first, second, next]. `kept`, a wrong turn: a join stays when the apart branch starts."""
     nodes = []
 
     def visit(decisions):
@@ -121,7 +129,7 @@ def search(conditions, value=term_value):
             if visit(decisions + [(True, a, b)]):
                 return True
             here[3] = len(nodes) + 1
-            return visit(decisions + [(False, a, b)])
+            return visit(decisions + [(True, a, b)] * kept + [(False, a, b)])
         nodes.append([3, 0, 0, 0])
         return True
     return ('met' if visit([]) else 'cannot'), nodes
@@ -274,10 +282,11 @@ class Damage:
 
 def group_line(name, sheets, lists, bytes_of_sheets):
     """The line of a group; its small refutations are damaged."""
-    verdicts = []
+    verdicts, count = [], 0
     for data in sheets:
         said, nodes = answer(data)
         verdicts.append(said[0])
+        count += len(nodes)
         if said[0] == 'cannot' and number(data, 0) <= 6:
             refutation = list_bytes(nodes)
             assert check(data, refutation) == ('passed',)
@@ -286,7 +295,7 @@ def group_line(name, sheets, lists, bytes_of_sheets):
             for changed in changes(data):
                 bytes_of_sheets.count(changed, refutation)
     each = ' '.join('%s %d' % (v, verdicts.count(v)) for v in ('met', 'cannot', 'refused'))
-    return '%s: sheets %d %s differ 0' % (name, len(verdicts), each)
+    return '%s: sheets %d %s nodes %d differ 0' % (name, len(verdicts), each, count)
 
 
 def many_splits(s):
@@ -312,6 +321,12 @@ def write_output():
     for s in (1024, 1025):
         print('splits on a path %d: %s' % (s, ' '.join(map(str, check(sheet(1, [[]]), list_bytes(many_splits(s)))))))
 
+
+# A program that took the wrong turn would answer these sheets otherwise.
+TURNS = {name: [read(data)[2] for data in sheets] for name, sheets in GROUPS if name in ('mark on lots', 'join kept', 'one ground')}
+assert all(len(search(c, value_by_lots)[1]) != len(search(c)[1]) for c in TURNS['mark on lots'])
+assert all((search(c, kept=True)[0], search(c)[0]) == ('cannot', 'met') for c in TURNS['join kept'])
+assert all(search(c)[0] == 'met' and any(n[0] == 2 for n in search(c)[1]) for c in TURNS['one ground'])
 
 for n in range(1, 11):
     assert answer(phe(n))[0] == ('cannot', n * n + n - 1)

@@ -38,7 +38,7 @@ pub fn searched(sheet: &[u8], grouping: &mut [u8], store: &mut [u8]) -> Answer {
     }
 }
 
-// What the checker says of a list: 1 at first where it passes, else the check and the place of the refusal.
+// What the checker says of a list: kind 1 where it passes, else 3 with the check and the place.
 pub fn checked(sheet: &[u8], list: &[u8]) -> Answer {
     let answer = checker::check(sheet, list);
     match answer {

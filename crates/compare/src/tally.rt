@@ -1,11 +1,12 @@
 // What is counted.
 
-// Of a group of sheets: how many there are, how many of each verdict, and how many on which two answers differ.
+// Of a group of sheets: how many there are, how many of each verdict, the nodes of all searches, and how many on which two answers differ.
 pub struct Tally {
     pub sheets: u32,
     pub met: u32,
     pub cannot: u32,
     pub refused: u32,
+    pub nodes: u32,
     pub differ: u32,
 }
 
@@ -24,6 +25,17 @@ fn plus(x: u32, so: bool) -> u32 {
     if x < 1000000 { x + 1 } else { x }
 }
 
+// The sum of two numbers below a million.
+fn sum(x: u32, y: u32) -> u32 {
+    if 1000000 < x {
+        return x;
+    }
+    if 1000000 < y {
+        return x;
+    }
+    x + y
+}
+
 impl Tally {
     pub fn new() -> Tally {
         Tally {
@@ -31,16 +43,23 @@ impl Tally {
             met: 0,
             cannot: 0,
             refused: 0,
+            nodes: 0,
             differ: 0,
         }
     }
 
-    pub fn count(self, kind: u8, differs: bool) -> Tally {
+    // A sheet more; `count` is that of its nodes where it is met or cannot be.
+    pub fn count(self, kind: u8, count: u32, differs: bool) -> Tally {
         Tally {
             sheets: plus(self.sheets, true),
             met: plus(self.met, kind == 1),
             cannot: plus(self.cannot, kind == 2),
             refused: plus(self.refused, kind == 3),
+            nodes: if kind < 3 {
+                sum(self.nodes, count)
+            } else {
+                self.nodes
+            },
             differ: plus(self.differ, differs),
         }
     }

@@ -1,30 +1,23 @@
+-- `compare::services::is_refuted_by`: the part of the store that is lent has as many bytes as its records.
 use borrow.Author.Needs.{needs}
 use lib.Seq.{length-take-le}
 use mathlib.Core.Path.{sym}
 use native.Mathlib.Omega.{arith}
 use Rattle.compare.proofs.services.is_refuted_by.Statement.{statement}
 use Rattle.compare.proofs.services.is_refuted_by.Tie as tie
-use Rattle.compare.proofs.services.is_refuted_by.Reads as reads
-use Rattle.compare.proofs.services.is_refuted_by.Lts as lts
-use Rattle.compare.proofs.services.passes.Reads as passes-reads
 
--- src/services.rt:71:18
 mul-length : tie.Need-mul-length
 mul-length c = search needs
 
--- src/services.rt:73:9
 returns : tie.Need-returns
 returns c = search needs
 
--- src/services.rt:75:19
 slice-aggregate-passes : tie.Need-slice-aggregate-passes
 slice-aggregate-passes c = sym (length-take-le _ _ (omega arith))
 
--- src/services.rt:75:5
 passes-requires : tie.Need-passes-requires
 passes-requires c κs = search needs
 
--- src/services.rt:70:1
 returns-2 : tie.Need-returns-2
 returns-2 c = search needs
 

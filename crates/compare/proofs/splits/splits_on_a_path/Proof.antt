@@ -1,60 +1,44 @@
+-- `compare::splits::splits_on_a_path`: the part that is lent has as many bytes as its records.
 use borrow.Author.Needs.{needs}
 use lib.Seq.{length-take-le}
 use mathlib.Core.Path.{sym}
 use native.Mathlib.Omega.{arith}
 use Rattle.compare.proofs.splits.splits_on_a_path.Statement.{statement}
 use Rattle.compare.proofs.splits.splits_on_a_path.Tie as tie
-use Rattle.compare.proofs.splits.splits_on_a_path.Reads as reads
-use Rattle.compare.proofs.splits.splits_on_a_path.Lts as lts
-use Rattle.compare.proofs.services.checked.Reads as checked-reads
-use Rattle.compare.proofs.splits.put_grounds.Reads as put-grounds-reads
-use Rattle.compare.proofs.splits.put_splits.Reads as put-splits-reads
 
--- src/splits.rt:46:16
 slice-aggregate-put-splits : tie.Need-slice-aggregate-put-splits
 slice-aggregate-put-splits c = search needs
 
--- src/splits.rt:46:5
 put-splits-requires : tie.Need-put-splits-requires
 put-splits-requires c κs = search needs
 
--- src/splits.rt:47:17
 slice-aggregate-put-grounds : tie.Need-slice-aggregate-put-grounds
 slice-aggregate-put-grounds c = search needs
 
--- src/splits.rt:47:5
 put-grounds-requires : tie.Need-put-grounds-requires
 put-grounds-requires c κs = search needs
 
--- src/splits.rt:48:23
 mul-length : tie.Need-mul-length
 mul-length c = search needs
 
--- src/splits.rt:48:23
 add-length : tie.Need-add-length
 add-length c = search needs
 
--- src/splits.rt:48:18
 mul-length-2 : tie.Need-mul-length-2
 mul-length-2 c = search needs
 
--- src/splits.rt:49:23
 slice-aggregate-checked : tie.Need-slice-aggregate-checked
 slice-aggregate-checked c = search needs
 
--- src/splits.rt:49:52
 array-share-prefix-list : tie.Need-array-share-prefix-list
 array-share-prefix-list c = search needs
 
--- src/splits.rt:49:52
 slice-aggregate-checked-2 : tie.Need-slice-aggregate-checked-2
 slice-aggregate-checked-2 c = sym (length-take-le _ _ (omega arith))
 
--- src/splits.rt:49:5
 checked-requires : tie.Need-checked-requires
 checked-requires c κs = search needs
 
--- src/splits.rt:42:1
 returns : tie.Need-returns
 returns c = search needs
 

@@ -1,9 +1,9 @@
--- `compare::groups`: the place stays within the text; what is left of the text falls.
+-- `compare::groups::lines`: the place stays within the text; what is left of the text falls.
 use borrow.Author.Needs.{needs}
 use Prim.Native.Nat.{_≤_, _-_}
 use lib.ListN.{length}
-use Rattle.compare.proofs.groups.Statement.{statement}
-use Rattle.compare.proofs.groups.Tie as tie
+use Rattle.compare.proofs.groups.lines.Statement.{statement}
+use Rattle.compare.proofs.groups.lines.Tie as tie
 
 abbrev Inv-loop : tie.InvT-loop
 Inv-loop text counts₀ at₀ counts at = at ≤ length text
@@ -47,8 +47,8 @@ loop-again-2 c = search needs
 returns : tie.Need-returns Inv-loop μ-loop
 returns c = search needs
 
-pub groups-spec : {M : Type 1} → statement M
-groups-spec =
+pub lines-spec : {M : Type 1} → statement M
+lines-spec =
     tie.close
     (tie.spec
     Inv-loop

@@ -1,9 +1,9 @@
--- `compare::generated`: the sheets left fall.
+-- `compare::groups::generated`: the sheets left fall.
 use borrow.Author.Needs.{needs}
 use mathlib.Core.Path.{_≡_}
 use lib.ListN.{length}
-use Rattle.compare.proofs.generated.Statement.{statement}
-use Rattle.compare.proofs.generated.Tie as tie
+use Rattle.compare.proofs.groups.generated.Statement.{statement}
+use Rattle.compare.proofs.groups.generated.Tie as tie
 
 abbrev Inv-loop : tie.InvT-loop
 Inv-loop sheet₀ counts₀ state₀ left₀ sheet counts state left = length sheet ≡ length sheet₀

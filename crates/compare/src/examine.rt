@@ -1,0 +1,80 @@
+// One sheet, before all solvers and services.
+use crate::damage;
+use crate::partitions;
+use crate::raw;
+use crate::services;
+use crate::services::Answer;
+use crate::tally::Damage;
+use crate::tally::Tally;
+
+// The counts of a run: of the group, of damaged lists, of damaged sheets.
+pub struct Counts {
+    pub tally: Tally,
+    pub lists: Damage,
+    pub sheets: Damage,
+}
+
+// No sheet of a group yet; the damage goes on.
+pub fn new_group(lists: Damage, sheets: Damage) -> Counts {
+    Counts {
+        tally: Tally::new(),
+        lists,
+        sheets,
+    }
+}
+
+// A sheet through the search, the two other services and the second solver. `wanted` is the answer that the search is to give; its kind is 0 for a sheet
+// that must be accepted and whose verdict only the second solver knows.
+pub fn examine(sheet: &[u8], wanted: Answer, counts: Counts) -> Counts {
+    let mut grouping = [0u8; 128];
+    let mut store = [0u8; 4096];
+    let answer = services::searched(sheet, &mut grouping, &mut store);
+    let borne_out = services::confirmed(sheet, &grouping, &store, answer);
+    let agreed = services::agrees(sheet, answer.kind);
+    let tally = counts.tally;
+    let lists = counts.lists;
+    let sheets = counts.sheets;
+    let differs = !(borne_out && agreed && expected(answer, wanted));
+    let counted = Counts {
+        tally: tally.count(answer.kind, answer.first, differs),
+        lists,
+        sheets,
+    };
+    if answer.kind == 2 {
+        damaged(sheet, &mut store, answer.first, counted)
+    } else {
+        counted
+    }
+}
+
+// Whether the answer is the one wanted.
+fn expected(answer: Answer, wanted: Answer) -> bool {
+    if wanted.kind == 0 {
+        return answer.kind < 3;
+    }
+    answer.kind == wanted.kind && answer.first == wanted.first && answer.second == wanted.second
+}
+
+// The refutation of a sheet with few lots is damaged, and then the sheet.
+fn damaged(sheet: &[u8], store: &mut [u8], count: u32, counts: Counts) -> Counts {
+    if partitions::MOST_LOTS < raw::number_at(sheet, 0) {
+        return counts;
+    }
+    let length = 8 * (count as usize);
+    if store.len() < length {
+        return counts;
+    }
+    damaged_both(sheet, &mut store[..length], counts)
+}
+
+// The list in three ways a byte, then the sheet.
+fn damaged_both(sheet: &[u8], list: &mut [u8], counts: Counts) -> Counts {
+    let tally = counts.tally;
+    let lists = damage::lists(sheet, list, counts.lists);
+    let sheets = damage::copied(sheet, list, counts.sheets);
+    Counts {
+        tally,
+        lists,
+        sheets,
+    }
+}

@@ -1,0 +1,45 @@
+// The lines of the output.
+ghost use Prim.Native.Nat.{_≤_};
+use crate::splits;
+use crate::tally::Damage;
+use crate::tally::Tally;
+use libc::STDOUT_FILENO;
+
+fn field(label: &[u8], x: u32) {
+    io::write_all(STDOUT_FILENO, label);
+    io::print_decimal(STDOUT_FILENO, x as u64);
+}
+
+// The line of a group, after its name.
+pub fn tally(tally: Tally) {
+    field(b": sheets ", tally.sheets);
+    field(b" met ", tally.met);
+    field(b" cannot ", tally.cannot);
+    field(b" refused ", tally.refused);
+    field(b" nodes ", tally.nodes);
+    field(b" differ ", tally.differ);
+    io::write_all(STDOUT_FILENO, b"\n");
+}
+
+pub fn damage(label: &[u8], damage: Damage) {
+    io::write_all(STDOUT_FILENO, label);
+    field(b": tried ", damage.tried);
+    field(b" passed ", damage.passed);
+    field(b" wrong ", damage.wrong);
+    io::write_all(STDOUT_FILENO, b"\n");
+}
+
+// What the checker says of a list with so many splits on a path.
+pub fn splits(s: u16)
+    requires { ⌜ s ≤ 1025 ⌝ }
+{
+    let answer = splits::splits_on_a_path(s);
+    field(b"splits on a path ", s as u32);
+    if answer.kind == 1 {
+        io::write_all(STDOUT_FILENO, b": passed");
+    } else {
+        field(b": refused ", answer.first);
+        field(b" ", answer.second);
+    }
+    io::write_all(STDOUT_FILENO, b"\n");
+}
