@@ -135,11 +135,12 @@ pub fn drop_last(path: &mut [u32], depth: usize) -> usize
     p.depth
 }
 
-// The nearest split still in its same branch: how many splits stand above and with it, or 0 where there is none. Those nearer are over.
-pub fn nearest(path: &[u32], depth: usize) -> usize
+// The nearest split still in its same branch: how many splits stand above and with it, or 0 where there is none. Those nearer are over, and dropped.
+pub fn nearest(path: &mut [u32], depth: usize) -> usize
     requires { ⌜ splitLength * depth ≤ length (now path) ⌝ }
     ensures within { λ r. ⌜ r ≤ depth ⌝ }
     ensures nearest { λ r. ⌜ nearestAs (now (path .entry)) r ≡ nearest (pathOf (now (path .entry)) depth) ⌝ }
+    ensures numbers { λ r. ⌜ now (path .exit) ≡ now (path .entry) ⌝ }
 {
     let mut top = depth;
     while 0 < top {
@@ -147,7 +148,7 @@ pub fn nearest(path: &[u32], depth: usize) -> usize
         if branch == SAME {
             return top;
         }
-        top -= 1;
+        top = drop_last(path, top);
     }
     top
 }
