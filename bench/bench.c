@@ -87,13 +87,13 @@ static void long_conditions(void) {
     }
 }
 
-static void dearest(unsigned r, unsigned w, const char *note) {
+static void worst_case(unsigned r, unsigned w, const char *note) {
     static sheet s;
     char name[64];
     unsigned paths = 1, power = 1;
     for (unsigned i = 0; i < r; i++) paths += power *= w;
-    sheet_dearest(&s, r, w);
-    snprintf(name, sizeof name, "dearest r = %u, w = %u%s", r, w, note);
+    sheet_worst_case(&s, r, w);
+    snprintf(name, sizeof name, "worst case r = %u, w = %u%s", r, w, note);
     measure(name, &s, 2 * paths - 1);
 }
 
@@ -112,10 +112,10 @@ int main(void) {
     static sheet s;
     printf("%-34s %6s %10s %10s %6s %12s %6s\n", "sheet", "nodes", "product ns", "C, same ns", "ratio", "C, plain ns", "ratio");
     long_conditions();
-    dearest(5, 7, "");
-    dearest(5, 8, ", full");
-    dearest(3, 31, "");
-    dearest(3, 40, ", full");
+    worst_case(5, 7, "");
+    worst_case(5, 8, ", full");
+    worst_case(3, 31, "");
+    worst_case(3, 40, ", full");
     sheet_circ(&s, 22);
     measure("circ(22)", &s, 22 * 22 - 22 + 1);
     sheet_phe(&s, 22);

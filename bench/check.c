@@ -87,10 +87,10 @@ static void own(const char *name) {
 }
 
 static void own_refutations(void) {
-    sheet_dearest(&s, 5, 7);
-    own("own, dearest r = 5, w = 7");
-    sheet_dearest(&s, 3, 31);
-    own("own, dearest r = 3, w = 31");
+    sheet_worst_case(&s, 5, 7);
+    own("own, worst case r = 5, w = 7");
+    sheet_worst_case(&s, 3, 31);
+    own("own, worst case r = 3, w = 31");
     sheet_circ(&s, 22);
     own("own, circ(22)");
     sheet_phe(&s, 22);

@@ -67,7 +67,7 @@ void sheet_deep(sheet *s, unsigned terms) {
     write_sheet(s, &d, 128);
 }
 
-void sheet_dearest(sheet *s, unsigned r, unsigned w) {
+void sheet_worst_case(sheet *s, unsigned r, unsigned w) {
     draft d = {0};
     for (unsigned i = 1; i <= r; i++) {
         condition(&d);

@@ -19,7 +19,7 @@ void sheet_long_condition(sheet *s, unsigned lots, unsigned terms);
 void sheet_deep(sheet *s, unsigned terms);
 
 /* r conditions of w terms "same 1 b", no b twice, and one "apart 1 1": the most nodes that r conditions of w "same" terms can have. */
-void sheet_dearest(sheet *s, unsigned r, unsigned w);
+void sheet_worst_case(sheet *s, unsigned r, unsigned w);
 
 /* The ring and the pigeon hole of source document 001, part 7. */
 void sheet_circ(sheet *s, unsigned n);

@@ -24,7 +24,7 @@ typedef struct {
 lihumbay_numbers lihumbay_read(const uint8_t *sheet, size_t sheet_length);
 
 /* The search: 1 met or 2 cannot be met, then the count of records, then 0. Met: the first bytes of the grouping, one for each lot, are written. Met or cannot:
-   the first 8 * count bytes of the store are. Check 9, store full: the store's whole records are zero. Nothing else is written. */
+   the first 8 * count bytes of the store are. Check 9, store full: the first 8 * `first` bytes of the store are zero. Nothing else is written. */
 lihumbay_numbers lihumbay_search(const uint8_t *sheet, size_t sheet_length, uint8_t *grouping, size_t grouping_length, uint8_t *store, size_t store_length);
 
 /* The evaluator: 0 where the grouping meets every condition, else the lowest condition that it doesn't; then 0, 0. */

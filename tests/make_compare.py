@@ -231,7 +231,7 @@ GROUPS = [
         sheet(3, [[(T, 1, 2)], [(S, 3, 2)], [(S, 2, 1), (S, 1, 3)]]),
         sheet(4, [[(S, 3, 4), (S, 2, 3), (S, 1, 2)], [(T, 3, 4)], [(S, 4, 2)]]),
     ]),
-    ('join kept', [  # met, and cannot where the join is kept in the apart branch
+    ('join stays', [  # met, and cannot where the join is kept in the apart branch
         sheet(3, [[(T, 2, 3)], [(S, 3, 2), (S, 2, 1)]]),
         sheet(4, [[(S, 1, 2), (S, 3, 4)], [(T, 1, 2)], [(T, 1, 3)]]),
     ]),
@@ -323,9 +323,9 @@ def write_output():
 
 
 # A program that took the wrong turn would answer these sheets otherwise.
-TURNS = {name: [read(data)[2] for data in sheets] for name, sheets in GROUPS if name in ('mark on lots', 'join kept', 'one ground')}
+TURNS = {name: [read(data)[2] for data in sheets] for name, sheets in GROUPS if name in ('mark on lots', 'join stays', 'one ground')}
 assert all(len(search(c, value_by_lots)[1]) != len(search(c)[1]) for c in TURNS['mark on lots'])
-assert all((search(c, kept=True)[0], search(c)[0]) == ('cannot', 'met') for c in TURNS['join kept'])
+assert all((search(c, kept=True)[0], search(c)[0]) == ('cannot', 'met') for c in TURNS['join stays'])
 assert all(search(c)[0] == 'met' and any(n[0] == 2 for n in search(c)[1]) for c in TURNS['one ground'])
 
 for n in range(1, 11):

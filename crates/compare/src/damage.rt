@@ -19,7 +19,7 @@ fn changed(byte: u8, way: u8) -> u8 {
 }
 
 // What the checker says as the two stand now.
-fn judged(sheet: &[u8], list: &[u8], damage: Damage) -> Damage {
+fn examined(sheet: &[u8], list: &[u8], damage: Damage) -> Damage {
     let passed = services::passes(sheet, list);
     damage.count(passed, passed && partitions::can_be_met(sheet))
 }
@@ -28,7 +28,7 @@ fn judged(sheet: &[u8], list: &[u8], damage: Damage) -> Damage {
 fn list_byte(sheet: &[u8], list: &mut [u8], at: usize, way: u8, damage: Damage) -> Damage {
     let byte = raw::byte_at(list, at);
     raw::put(list, at, changed(byte, way));
-    let after = judged(sheet, list, damage);
+    let after = examined(sheet, list, damage);
     raw::put(list, at, byte);
     after
 }
@@ -37,7 +37,7 @@ fn list_byte(sheet: &[u8], list: &mut [u8], at: usize, way: u8, damage: Damage) 
 fn sheet_byte(sheet: &mut [u8], list: &[u8], at: usize, way: u8, damage: Damage) -> Damage {
     let byte = raw::byte_at(sheet, at);
     raw::put(sheet, at, changed(byte, way));
-    let after = judged(sheet, list, damage);
+    let after = examined(sheet, list, damage);
     raw::put(sheet, at, byte);
     after
 }

@@ -151,7 +151,7 @@ module _ (before : ℕ) (store store₁ store₂ grouping grouping₂ : List ℕ
   pub record Turned (n : ℕ) : Type 0 where
     pub unmet : isMet t ≡ false
     pub count : n ≡ before + 1 + nodeCount t
-    pub kept : grouping₂ ≡ grouping
+    pub unwritten : grouping₂ ≡ grouping
     pub stored : store₂ ≡ sets (sets store (recordLength * before) (encode (splitRecord a b 0))) (recordLength * (before + 1)) (encodeAll (records (before + 1 + 1) t))
 
   pub same-cannot : (n : ℕ) → Explored (before + 1) store₁ store₂ grouping grouping₂ (Cannot n) t → Turned n
@@ -163,7 +163,7 @@ module _ (before : ℕ) (store store₁ store₂ grouping grouping₂ : List ℕ
           record {
             unmet = m;
             count = let k : before + 1 + nodeCount t ≡ n = cc in sym k;
-            kept = e .grouped;
+            unwritten = e .grouped;
             stored = e .stored fits ∙ ap (λ (l : List ℕ). sets l (recordLength * (before + 1)) (encodeAll (records (before + 1 + 1) t))) written;
           }
       go o q (ended-full over) = let z : _≡_ {A = ℕ} 0 1 = cc in absurd (omega arith)
@@ -173,7 +173,7 @@ module _ (before : ℕ) (store store₁ store₂ grouping grouping₂ : List ℕ
     pub apart-full : capacity store₂ ≤ n → Explored before store store₂ grouping grouping₂ Full (twoBranches a b t u)
     unfolding nodeCount
     apart-full h =
-        rw (turned .kept)
+        rw (turned .unwritten)
         (none-explored before store store₂ grouping (twoBranches a b t u)
         (omega (arith, turned .count, node-count u, capacity₂)))
       where
@@ -191,7 +191,7 @@ module _ (before : ℕ) (store store₁ store₂ grouping grouping₂ : List ℕ
         record {
           ends = e .ends ∙ end-eq capacity₃ total (isMet u);
           stored = λ fits. e .stored (omega (arith, total, capacity₃)) ∙ rw (marked, count) (apart-after split′ store before t (encodeAll (records (before + 1 + nodeCount t + 1) u))) ∙ bytes;
-          grouped = e .grouped ∙ ap (groupingEnd r u) (turned .kept) ∙ grouping-under r;
+          grouped = e .grouped ∙ ap (groupingEnd r u) (turned .unwritten) ∙ grouping-under r;
         }
       where
         split′ : NodeRecord

@@ -1,4 +1,4 @@
--- A store that has room for a record more, and has kept its length since.
+-- A store that has room for a record more, and has len its length since.
 use Prim.Native.Nat.{ℕ, _+_, _<_}
 use mathlib.Core.List.{List}
 use mathlib.Core.Path.{_≡_}
@@ -9,7 +9,7 @@ use Rattle.store.specs.Code.{HasPlace}
 
 module _ (store : List ℕ) (before : ℕ) (room : before < capacity store) where
   pub has-place : (store′ : List ℕ) → length store′ ≡ length store → HasPlace store′ (before + 1)
-  has-place store′ kept = record { least = omega arith; whole = omega arith }
+  has-place store′ len = record { least = omega arith; whole = omega arith }
 
   pub number-fits : before + 1 < 65536
   number-fits = omega arith

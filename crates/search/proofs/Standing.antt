@@ -24,7 +24,7 @@ use Rattle.classes.proofs.Path.{pair-leaves, new-represents, join-represents, a
 use Rattle.node.specs.declared.Resume.{Resume}
 use Rattle.node.specs.declared.Resume.the-variants.{Scan, Within}
 use Rattle.node.specs.Resume.{Resumes, StartsWithin}
-use Rattle.search.specs.Visited.{Standing, Kept, EntriesWithin}
+use Rattle.search.specs.Visited.{Standing, Untouched, EntriesWithin}
 
 -- ---- the open "same" terms, counted by the map and the pairs: the measure of the visits
 
@@ -119,12 +119,12 @@ module _ {s : List ℕ} {map : Classes} {pairs : List ℕ} {count : ℕ} {ds : D
     pair-room = omega (arith, st .room, apart-falls)
 
     -- and the apart branch, whatever the same branch wrote after the pairs, by what `set_apart` ensures.
-    pub apart-standing : (pairs′ pairs″ : List ℕ) → length pairs′ ≡ length pairs → Kept pairs pairs′ count → pairs″ ≡ withPair pairs′ count a b
+    pub apart-standing : (pairs′ pairs″ : List ℕ) → length pairs′ ≡ length pairs → Untouched pairs pairs′ count → pairs″ ≡ withPair pairs′ count a b
         → Standing s map pairs″ (count + 1) (apart a b ∷ ds)
-    apart-standing pairs′ pairs″ len kept set =
+    apart-standing pairs′ pairs″ len untouched set =
         rw set
         (record {
-          represents = apart-represents (below-represents (st .represents) pairs′ kept) a b (omega (arith, pair-room));
+          represents = apart-represents (below-represents (st .represents) pairs′ untouched) a b (omega (arith, pair-room));
           small = (split-small, st .small);
           room = simp length-set (omega (arith, st .room, apart-falls));
           size = simp length-set (omega (arith, st .size));
@@ -137,15 +137,15 @@ module _ {s : List ℕ} {map : Classes} {pairs : List ℕ} {count : ℕ} {ds : D
       → openCount s (map′ .lots) pairs count < openCount s (map .lots) pairs count
   same-less map′ joined = omega (arith, counted (same-standing st ok a b e map′ joined), counted st, same-falls st ok a b e)
 
-  pub apart-less : (pairs′ pairs″ : List ℕ) → length pairs′ ≡ length pairs → Kept pairs pairs′ count → pairs″ ≡ withPair pairs′ count a b
+  pub apart-less : (pairs′ pairs″ : List ℕ) → length pairs′ ≡ length pairs → Untouched pairs pairs′ count → pairs″ ≡ withPair pairs′ count a b
       → openCount s (map .lots) pairs″ (count + 1) < openCount s (map .lots) pairs count
-  apart-less pairs′ pairs″ len kept set =
-      omega (arith, counted (apart-standing st ok a b e pairs′ pairs″ len kept set), counted st, apart-falls st ok a b e)
+  apart-less pairs′ pairs″ len untouched set =
+      omega (arith, counted (apart-standing st ok a b e pairs′ pairs″ len untouched set), counted st, apart-falls st ok a b e)
 
 -- The same branch, the pair and the apart branch leave the pairs before them.
-pub kept-through : (pairs pairs′ pairs″ pairs‴ : List ℕ) (count a b : ℕ) → Kept pairs pairs′ count → pairs″ ≡ withPair pairs′ count a b → Kept pairs″ pairs‴ (count + 1)
-    → Kept pairs pairs‴ count
-kept-through pairs pairs′ pairs″ pairs‴ count a b same-branch set apart-branch i h =
+pub untouched-through : (pairs pairs′ pairs″ pairs‴ : List ℕ) (count a b : ℕ) → Untouched pairs pairs′ count → pairs″ ≡ withPair pairs′ count a b → Untouched pairs″ pairs‴ (count + 1)
+    → Untouched pairs pairs‴ count
+untouched-through pairs pairs′ pairs″ pairs‴ count a b same-branch set apart-branch i h =
     apart-branch i (omega arith)
     ∙ ap (λ (l : List ℕ). getD l i 0) set
     ∙ pair-leaves pairs′ count a b i h

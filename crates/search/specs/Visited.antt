@@ -25,7 +25,7 @@ use Rattle.search.specs.declared.Visited.the-variants.{Met, Cannot, Full
 
 -- ---- what a visit asks
 
--- The sheet is accepted, with m conditions, and the grouping has a byte for each lot.
+-- The sheet is accepted, with m conditions, and the grouping has no more bytes than a sheet can have lots.
 pub record Searchable (s : List ℕ) (m : ℕ) (grouping : List ℕ) : Type 0 where
   pub scannable : Scannable s m
   pub lots : length grouping ≤ mostLots
@@ -45,8 +45,8 @@ EntriesWithin lots = (lot : ℕ) → lot ≤ mostLots → classOf lots lot ≤ m
 -- ---- what it does
 
 -- A visit leaves the first `count` pairs as they are; it writes after them.
-abbrev pub Kept : List ℕ → List ℕ → ℕ → Type 0
-Kept pairs pairs′ count = (i : ℕ) → i < 2 * count → getD pairs′ i 0 ≡ getD pairs i 0
+abbrev pub Untouched : List ℕ → List ℕ → ℕ → Type 0
+Untouched pairs pairs′ count = (i : ℕ) → i < 2 * count → getD pairs′ i 0 ≡ getD pairs i 0
 
 -- How a visit ends whose nodes, with those before, come to `count` records.
 abbrev pub endWith : Bool → ℕ → Visited

@@ -15,7 +15,7 @@ ghost use Rattle.store.specs.Records.{capacity};
 ghost use Rattle.store.specs.Outcome.{resultOf, searchOutcome};
 ghost use Rattle.search.specs.Answers.{searchAnswer};
 ghost use Rattle.search.specs.Promises.{searchCase, RefusedExactly, FullExactly, FullPlace, MetExactly, MetGrouping, CannotExactly, CannotRefutes, CountBounded};
-ghost use Rattle.search.specs.Visited.{Searchable, Standing, EntriesWithin, Kept, Explored, EndsAs};
+ghost use Rattle.search.specs.Visited.{Searchable, Standing, EntriesWithin, Untouched, Explored, EndsAs};
 use classes::Classes;
 use node::Node;
 use node::Resume;
@@ -75,7 +75,7 @@ fn visit(
     ensures visited { λ r. ⌜ ((ds : Decisions) (t : Tree) → Standing (now (sheet .entry)) map (now (pairs .entry)) count ds → Resumes (now (sheet .entry)) from ds
         → Visits (conditions (now (sheet .entry))) ds t
         → Explored before (now (store .entry)) (now (store .exit)) (now (grouping .entry)) (now (grouping .exit)) r t) ⌝ }
-    ensures pairs { λ r. ⌜ Kept (now (pairs .entry)) (now (pairs .exit)) count ⌝ }
+    ensures pairs { λ r. ⌜ Untouched (now (pairs .entry)) (now (pairs .exit)) count ⌝ }
 {
     if store::capacity_of(store) <= (before as usize) {
         return Visited::Full;
@@ -131,7 +131,7 @@ fn branches(
         → node ds (conditions (now (sheet .entry))) ≡ split (a .0) (b .0) → ResumesWithin (now (sheet .entry)) (c .0) (after .0) (apart (a .0) (b .0) ∷ ds)
         → Visits (conditions (now (sheet .entry))) ds t
         → Explored before (now (store .entry)) (now (store .exit)) (now (grouping .entry)) (now (grouping .exit)) r t) ⌝ }
-    ensures pairs { λ r. ⌜ Kept (now (pairs .entry)) (now (pairs .exit)) count ⌝ }
+    ensures pairs { λ r. ⌜ Untouched (now (pairs .entry)) (now (pairs .exit)) count ⌝ }
 {
     let here = NodeNumber(before + 1);
     store::write(store, here, NodeRecord::Split(a, b, NodeNumber(0)));
@@ -191,8 +191,8 @@ fn start(sheet: &[u8], m: u16, grouping: &mut [u8], store: &mut [u8]) -> Visited
     )
 }
 
-// The search of an accepted sheet with n lots and m conditions, in a grouping of at least n bytes and any store. Where the store is full, its whole records are
-// zeroed. The visits have only the bytes that they may write.
+// The search of an accepted sheet with n lots and m conditions, in a grouping of at least n bytes and any store. Where the store is full, its first
+// S records are zeroed. The visits have only the bytes that they may write.
 fn search_accepted(
     sheet: &[u8],
     n: u16,

@@ -4,10 +4,10 @@
 --     comes-back          given `Room`, and zs as long as ys:  [†κ′] ∗ LentAgain γ₁ ∗ finally γ₁ zs  ⊢ ⇛ (own (the `&κ mut [T]` ((b, o), γ, zs)) ∗ [κ]_q)
 -- A local whose type R holds the lifetime κ (a struct with a `&κ mut [T]`) is lent for ν ∷ κ, the meet of a lifetime ν made for the call and κ.
 --     lies-in, lies-out   the cell and what a value owns, together: the value lies at (b, o)
---     Kept                what the lender keeps while the local is lent under the name δ
+--     LenderHas                what the lender keeps while the local is lent under the name δ
 --     bounds-hold         ν ∷ κ is within κ: the bound `'a: 's` of a callee `fn f<'s, 'a>(p: &'s mut S<'a>)`
---     lends-local         h lies at (b, o) ∗ [ν]_1 ∗ [κ]_q  ⊢ ⇛ ∃ δ. (own (the `&(ν ∷ κ) mut R` ((b, o), δ, h)) ∗ [ν ∷ κ]_ql ∗ [κ]_qr ∗ true) ∗ Kept δ        ql and qr are q's halves
---     local-back          ([ν ∷ κ]_ql ∗ [κ]_qr ∗ true) ∗ Kept δ ∗ res δ h′  ⊢ ⇛ (h′ lies at (b, o) ∗ [κ]_q)
+--     lends-local         h lies at (b, o) ∗ [ν]_1 ∗ [κ]_q  ⊢ ⇛ ∃ δ. (own (the `&(ν ∷ κ) mut R` ((b, o), δ, h)) ∗ [ν ∷ κ]_ql ∗ [κ]_qr ∗ true) ∗ LenderHas δ        ql and qr are q's halves
+--     local-back          ([ν ∷ κ]_ql ∗ [κ]_qr ∗ true) ∗ LenderHas δ ∗ res δ h′  ⊢ ⇛ (h′ lies at (b, o) ∗ [κ]_q)
 -- And what a contract of several clauses claims at an exit:
 --     claims              P  ⊢  P ∗ X, where X holds of itself        one, more   a fact holds of itself, alone and before others
 -- Assumes `Given`.
@@ -82,14 +82,14 @@ module _ (R : RattleType) (κ : Lft) (q : Share) (ν b o : ℕ) where
     unfolding partOf
     lies-out h = qed W (‵ (partAt R fullShare h b o) ∷ []) ∵ fpick ! (λ vs. fsplit ! $ show ! (λ (us : List Val). sep 𝓤 (sem 𝓤 H A (cellAt fullShare (R .mir) us b o)) (sem 𝓤 H A (R .own h us))) vs $ frame ! $ done !)
 
-    abbrev pub Kept : GName → SProp 𝓤
-    Kept δ = sep 𝓤 (Rest 𝓤 H A W ν (PosShare·left q)) (sem 𝓤 H A (flent (ν ∷ κ) (Body (mem R) b o δ)))
+    abbrev pub LenderHas : GName → SProp 𝓤
+    LenderHas δ = sep 𝓤 (Rest 𝓤 H A W ν (PosShare·left q)) (sem 𝓤 H A (flent (ν ∷ κ) (Body (mem R) b o δ)))
 
     abbrev Tokens : SProp 𝓤
     Tokens = sep 𝓤 (A .lft (ν ∷ κ) (PosShare·left q)) (sep 𝓤 (A .lft κ (PosShare·right q)) (sem 𝓤 H A ftrue))
 
     abbrev Lent : Lifetime → R .Denot → GName → SProp 𝓤
-    Lent ℓ h δ = sep 𝓤 (sep 𝓤 (sem 𝓤 H A (MutRef ℓ (ν ∷ κ) R .own (record { ptr = (b, o); name = δ; now = h }) (vptr b o ∷ []))) Tokens) (Kept δ)
+    Lent ℓ h δ = sep 𝓤 (sep 𝓤 (sem 𝓤 H A (MutRef ℓ (ν ∷ κ) R .own (record { ptr = (b, o); name = δ; now = h }) (vptr b o ∷ []))) Tokens) (LenderHas δ)
 
     pub lends-local : (ℓ : Lifetime) (h : R .Denot) → ent 𝓤 (sep 𝓤 (sem 𝓤 H A (partAt R fullShare h b o)) (sep 𝓤 (A .lft (ν ∷ []) fullShare) (sep 𝓤 (A .lft κ q) (sem 𝓤 H A ftrue)))) (H .⇛ (ex 𝓤 (Lent ℓ h)))
     lends-local ℓ h =
@@ -101,7 +101,7 @@ module _ (R : RattleType) (κ : Lft) (q : Share) (ν b o : ℕ) where
         -- [the token of ν ∷ κ; the rest of ν's; κ's other half; the reference; the lender's part; true]
         at-once ! $ show ! (Lent ℓ h) δ $ move ! (2 ∷ 5 ∷ []) $ join ! $ move ! (1 ∷ 0 ∷ []) $ join ! $ move ! (2 ∷ 0 ∷ []) $ join ! $ frame ! $ frame ! $ done !)
 
-    pub local-back : (δ : GName) (h′ : R .Denot) → ent 𝓤 (sep 𝓤 Tokens (sep 𝓤 (Kept δ) (A .res δ (R .coded .code h′)))) (H .⇛ (sep 𝓤 (sem 𝓤 H A (partAt R fullShare h′ b o)) (A .lft κ q)))
+    pub local-back : (δ : GName) (h′ : R .Denot) → ent 𝓤 (sep 𝓤 Tokens (sep 𝓤 (LenderHas δ) (A .res δ (R .coded .code h′)))) (H .⇛ (sep 𝓤 (sem 𝓤 H A (partAt R fullShare h′ b o)) (A .lft κ q)))
     local-back δ h′ =
         qed W ((‵ (flft (ν ∷ κ) (PosShare·left q)) ⊛ ‵ (flft κ (PosShare·right q)) ⊛ ‵ ftrue) ∷ (raw (Rest 𝓤 H A W ν (PosShare·left q)) ⊛ ‵ (flent (ν ∷ κ) (Body (mem R) b o δ))) ∷ ‵ (fres δ (R .coded .code h′)) ∷ []) ∵ updating ! $
         split ! $ move ! (2 ∷ []) $ split ! $ move ! (2 ∷ 0 ∷ []) $

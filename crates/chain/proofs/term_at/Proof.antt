@@ -52,7 +52,7 @@ use Rattle.sheet.proofs.Record as N
 use Rattle.sheet.proofs.Record.Laws as N′
 use Rattle.sheet.proofs.Term as S
 use Rattle.sheet.proofs.Term.Laws as S′
-use Rattle.sheet.proofs.Lending.{lies-in, lies-out, Kept, bounds-hold, lends-local, local-back}
+use Rattle.sheet.proofs.Lending.{lies-in, lies-out, LenderHas, bounds-hold, lends-local, local-back}
 use Rattle.chain.proofs.advance as advance
 use Rattle.chain.proofs.advance.Symbol as advance-def
 use Rattle.chain.proofs.advance.Symbol.{name as #chain·advance}
@@ -134,7 +134,7 @@ module _ {M : Type 1} (𝓤 : URA M) (H : Heap 𝓤) (A : Atoms 𝓤) (W : Given
         use2 W (‵ (partAt R fullShare h l₄ 0)) (lies-in R κ q 0 l₄ 0 𝓤 H A W h (T′.lowered h ∷ [])) $
         -- [the chain; what s owns; the other parameters'; _5; …; _4's end; _3; …; _2; …; _1; …; room for _0; …; the token]: it is lent
         lft-new ! tt (λ ν. move ! (1 ∷ 0 ∷ 15 ∷ []) $
-        use3 W (later (some (λ (δ : GName). (‵ (MutRef (named 0) (ν ∷ κ) R .own (lent l₄ δ) (vptr l₄ 0 ∷ [])) ⊛ ‵ (flft (ν ∷ κ) (PosShare·left q)) ⊛ ‵ (flft κ (PosShare·right q)) ⊛ ‵ ftrue) ⊛ raw (Kept R κ q ν l₄ 0 𝓤 H A W δ)))) (lends-local R κ q ν l₄ 0 𝓤 H A W (named 0) h) $ await ! tt $ pick ! (λ δ. split ! $
+        use3 W (later (some (λ (δ : GName). (‵ (MutRef (named 0) (ν ∷ κ) R .own (lent l₄ δ) (vptr l₄ 0 ∷ [])) ⊛ ‵ (flft (ν ∷ κ) (PosShare·left q)) ⊛ ‵ (flft κ (PosShare·right q)) ⊛ ‵ ftrue) ⊛ raw (LenderHas R κ q ν l₄ 0 𝓤 H A W δ)))) (lends-local R κ q ν l₄ 0 𝓤 H A W (named 0) h) $ await ! tt $ pick ! (λ δ. split ! $
         use1 W (raw (Advance 𝓤 H A mem run .pre (to-advance l₄ ν δ))) (goes l₄ ν δ) $
         -- [what `advance` asks; what the lender keeps; what s owns; the other parameters'; _5; …; _4's end; _3; …; _2; …; _1; …; room for _0; …]
         calls-at ! fm (Advance 𝓤 H A mem run) known (to-advance l₄ ν δ) (and-then ! (load ! (from ! (stop !)) (look ! 4 refl)) (and-then ! (load ! (from ! (stop !)) (look ! 7 refl)) (no-more !))) (λ u.

@@ -51,7 +51,7 @@ use Rattle.path.proofs.Path.Laws as T′
 use Rattle.path.proofs.Split as S
 use Rattle.path.proofs.Split.Laws as S′
 use Rattle.path.proofs.Splits.{path-pushed}
-use Rattle.sheet.proofs.Lending.{lies-in, lies-out, Kept, bounds-hold, lends-local, local-back, claims, more, one}
+use Rattle.sheet.proofs.Lending.{lies-in, lies-out, LenderHas, bounds-hold, lends-local, local-back, claims, more, one}
 use Rattle.path.proofs.push_split as push-split
 use Rattle.path.proofs.push_split.Symbol as push-split-def
 use Rattle.path.proofs.push_split.Symbol.{name as #path·push-split}
@@ -147,7 +147,7 @@ module _ {M : Type 1} (𝓤 : URA M) (H : Heap 𝓤) (A : Atoms 𝓤) (W : Given
         use2 W (‵ (partAt R fullShare h l₄ 0)) (lies-in R κ q 0 l₄ 0 𝓤 H A W h (T′.lowered h ∷ [])) $
         -- [the path; the other parameters'; _8; …; _7; …; _6; …; _5; …; _4's end; _3; …; _2; …; _1; …; room for _0; …; the token]: it is lent
         lft-new ! tt (λ ν. move ! (1 ∷ 0 ∷ 20 ∷ []) $
-        use3 W (later (some (λ (δ : GName). (‵ (MutRef (named 0) (ν ∷ κ) R .own (lent l₄ δ) (vptr l₄ 0 ∷ [])) ⊛ ‵ (flft (ν ∷ κ) (PosShare·left q)) ⊛ ‵ (flft κ (PosShare·right q)) ⊛ ‵ ftrue) ⊛ raw (Kept R κ q ν l₄ 0 𝓤 H A W δ)))) (lends-local R κ q ν l₄ 0 𝓤 H A W (named 0) h) $ await ! tt $ pick ! (λ δ. split ! $
+        use3 W (later (some (λ (δ : GName). (‵ (MutRef (named 0) (ν ∷ κ) R .own (lent l₄ δ) (vptr l₄ 0 ∷ [])) ⊛ ‵ (flft (ν ∷ κ) (PosShare·left q)) ⊛ ‵ (flft κ (PosShare·right q)) ⊛ ‵ ftrue) ⊛ raw (LenderHas R κ q ν l₄ 0 𝓤 H A W δ)))) (lends-local R κ q ν l₄ 0 𝓤 H A W (named 0) h) $ await ! tt $ pick ! (λ δ. split ! $
         use1 W (raw (PushSplit 𝓤 H A mem run .pre (to-push-split l₄ ν δ))) (goes l₄ ν δ) $
         -- [what `push_split` asks; what the lender keeps; the other parameters'; _8; …; _7; …; _6; …; _5; …; _4's end; _3; …; _2; …; _1; …; room for _0; …]
         calls-at ! fm (PushSplit 𝓤 H A mem run) known (to-push-split l₄ ν δ) (and-then ! (load ! (from ! (stop !)) (look ! 3 refl)) (and-then ! (load ! (from ! (stop !)) (look ! 12 refl)) (no-more !))) (λ w.

@@ -47,7 +47,7 @@ use Rattle.path.specs.declared.Path.{Path}
 use Rattle.path.proofs.Path as T
 use Rattle.path.proofs.Path.Laws as T′
 use Rattle.path.proofs.Splits.{path-turned}
-use Rattle.sheet.proofs.Lending.{lies-in, lies-out, Kept, bounds-hold, lends-local, local-back}
+use Rattle.sheet.proofs.Lending.{lies-in, lies-out, LenderHas, bounds-hold, lends-local, local-back}
 use Rattle.path.proofs.turn_split as turn-split
 use Rattle.path.proofs.turn_split.Symbol as turn-split-def
 use Rattle.path.proofs.turn_split.Symbol.{name as #path·turn-split}
@@ -139,7 +139,7 @@ module _ {M : Type 1} (𝓤 : URA M) (H : Heap 𝓤) (A : Atoms 𝓤) (W : Given
         use2 W (‵ (partAt R fullShare h l₃ 0)) (lies-in R κ q 0 l₃ 0 𝓤 H A W h (T′.lowered h ∷ [])) $
         -- [the path; the other parameters'; _7; …; _6; …; _5; …; _4; …; _3's end; _2; …; _1; …; room for _0; …; the token]: it is lent
         lft-new ! tt (λ ν. move ! (1 ∷ 0 ∷ 18 ∷ []) $
-        use3 W (later (some (λ (δ : GName). (‵ (MutRef (named 0) (ν ∷ κ) R .own (lent l₃ δ) (vptr l₃ 0 ∷ [])) ⊛ ‵ (flft (ν ∷ κ) (PosShare·left q)) ⊛ ‵ (flft κ (PosShare·right q)) ⊛ ‵ ftrue) ⊛ raw (Kept R κ q ν l₃ 0 𝓤 H A W δ)))) (lends-local R κ q ν l₃ 0 𝓤 H A W (named 0) h) $ await ! tt $ pick ! (λ δ. split ! $
+        use3 W (later (some (λ (δ : GName). (‵ (MutRef (named 0) (ν ∷ κ) R .own (lent l₃ δ) (vptr l₃ 0 ∷ [])) ⊛ ‵ (flft (ν ∷ κ) (PosShare·left q)) ⊛ ‵ (flft κ (PosShare·right q)) ⊛ ‵ ftrue) ⊛ raw (LenderHas R κ q ν l₃ 0 𝓤 H A W δ)))) (lends-local R κ q ν l₃ 0 𝓤 H A W (named 0) h) $ await ! tt $ pick ! (λ δ. split ! $
         use1 W (raw (TurnSplit 𝓤 H A mem run .pre (to-turn-split l₃ ν δ))) (goes l₃ ν δ) $
         -- [what `turn_split` asks; what the lender keeps; the other parameters'; _7; …; _6; …; _5; …; _4; …; _3's end; _2; …; _1; …; room for _0; …]
         calls-at ! fm (TurnSplit 𝓤 H A mem run) known (to-turn-split l₃ ν δ) (and-then ! (load ! (from ! (stop !)) (look ! 3 refl)) (no-more !)) (λ w.

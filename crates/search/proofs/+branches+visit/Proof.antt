@@ -21,7 +21,7 @@ use Rattle.search.specs.Visited.{Standing, Explored}
 use Rattle.search.proofs.Exploring.{none-explored, met-explored, ground-explored}
 use Rattle.search.proofs.Splitting.{split-met, split-full, split-over, split-apart}
 use Rattle.search.proofs.Room.{has-place, number-fits}
-use Rattle.search.proofs.Standing.{openCount, starts-within, pairs-within, entries-within, split-small, same-standing, same-less, pair-room, apart-standing, apart-less, kept-through}
+use Rattle.search.proofs.Standing.{openCount, starts-within, pairs-within, entries-within, split-small, same-standing, same-less, pair-room, apart-standing, apart-less, untouched-through}
 use borrow.Fn.Kinds.{In}
 use borrow.Fn.PlainCycle.{Measures, is, falls, and}
 use Rattle.search.proofs.branches.Reads as branches
@@ -279,7 +279,7 @@ branches-returns-4 t c = let apart-branch = c .before .before .before .before .b
           (next .last .0) _ _ _
           (next .ensures ∙ ap (λ (k : ℕ). sets (same-branch .visit .last .1 .1 .1 .1 .1 .1 .1 .1 .0) (recordLength * k + 6) (twoBytes (under-same .0 .0 + 1))) place)
           (λ u w. apart-branch .ensures .0 _ u (branches-apart t turned ds st e) res w)),
-      kept-through (start .args .pairs .now) (same-branch .visit .last .1 .1 .1 .1 .1 .1 .0) (turned .set-apart .last .0) (apart-branch .last .1 .1 .1 .1 .1 .1 .0) (start .args .count) (start .args .a .0) (start .args .b .0)
+      untouched-through (start .args .pairs .now) (same-branch .visit .last .1 .1 .1 .1 .1 .1 .0) (turned .set-apart .last .0) (apart-branch .last .1 .1 .1 .1 .1 .1 .0) (start .args .count) (start .args .a .0) (start .args .b .0)
           (same-branch .visit .ensures .1) (turned .set-apart .ensures) (apart-branch .ensures .1),
     )
 
