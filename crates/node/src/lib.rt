@@ -41,7 +41,7 @@ pub enum Node {
 
 // The lowest-numbered condition that has no true term and no open "apart" term. A condition is passed over exactly where the classes meet it: some "same"
 // term's lots share a class, or some "apart" term's do not (`taken-by-classes`); so the scan needs no marks. The map's array is read in place: a method that
-// hands the map back would copy it for each term. Terms are read from the slice and the number: through the chain reader the scan took a fifth longer.
+// hands the map back would copy it for each term.
 pub fn scan(sheet: &[u8], m: u16, map: Classes) -> Taken
     requires { ⌜ Scannable (now sheet) m ⌝ }
     ensures taken { λ r. ⌜ ((ds : Decisions) → map .lots ≡ classes ds → takenAs (now (sheet .entry)) r ≡ taken ds 1 (conditions (now (sheet .entry)))) ⌝ }
@@ -87,7 +87,7 @@ pub fn first_open(
 {
     let mut at = from;
     while at.0 != 0 {
-        let t = chain::term_at(sheet, at, m);
+        let t = sheet::format::term_at(sheet, at, m);
         let a = t.a;
         let b = t.b;
         let next = t.next;
