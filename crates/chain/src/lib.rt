@@ -16,7 +16,7 @@ pub fn advance<'s, 'a>(c: &'s mut Chain<'a>, m: u16) -> Term
     requires { ⌜ HasRecord (now (now c .sheet)) m (now c .next .0) ⌝ }
     ensures { λ t. ⌜ (t ≡ termRecordAt (now (now (c .entry) .sheet)) (now (c .entry) .next .0)) × (now (c .exit) ≡ movedOn (now (c .entry))) ⌝ }
 {
-    let t = sheet::format::term_at(c.sheet, c.next, m);
+    let t = sheet::format::term_at(c.sheet, m, c.next);
     c.next = t.next;
     t
 }

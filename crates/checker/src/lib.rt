@@ -90,7 +90,7 @@ fn all_false(sheet: &[u8], m: u16, map: Classes, table: &[u8], head: Record) -> 
     let lots = map.lots;
     let mut at = head;
     while at.0 != 0 {
-        let t = sheet::format::term_at(sheet, at, m);
+        let t = sheet::format::term_at(sheet, m, at);
         let a = t.a.0 as usize;
         let b = t.b.0 as usize;
         if may_hold(table, t.sign, lots[a], lots[b]) {

@@ -59,7 +59,7 @@ pub fn scan(sheet: &[u8], m: u16, map: Classes) -> Taken
             if at.0 == 0 {
                 break 'conditions Taken::Lowest(Condition(c));
             }
-            let t = sheet::format::term_at(sheet, at, m);
+            let t = sheet::format::term_at(sheet, m, at);
             let a = t.a.0 as usize;
             let b = t.b.0 as usize;
             let shared = lots[a] == lots[b];
@@ -87,7 +87,7 @@ pub fn first_open(
 {
     let mut at = from;
     while at.0 != 0 {
-        let t = sheet::format::term_at(sheet, at, m);
+        let t = sheet::format::term_at(sheet, m, at);
         let a = t.a;
         let b = t.b;
         let next = t.next;

@@ -75,7 +75,7 @@ fn well_formed(sheet: &[u8], h: Header, r: Record) -> bool
     requires { ⌜ (h ≡ headerAt (now sheet)) × HasRecord (now sheet) (h .conditions) (r .0) ⌝ }
     ensures { λ b. ⌜ b ≡ wellFormed (now (sheet .entry)) (r .0) ⌝ }
 {
-    let t = format::term_at(sheet, r, h.conditions);
+    let t = format::term_at(sheet, h.conditions, r);
     if !sign_known(t.sign) {
         return false;
     }

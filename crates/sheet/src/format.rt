@@ -68,7 +68,7 @@ pub fn next_at(sheet: &[u8], m: u16, r: Record) -> Record
 }
 
 // The term at a record.
-pub fn term_at(sheet: &[u8], r: Record, m: u16) -> Term
+pub fn term_at(sheet: &[u8], m: u16, r: Record) -> Term
     requires { ⌜ HasRecord (now sheet) m (r .0) ⌝ }
     ensures { λ t. ⌜ t ≡ termRecordAt (now (sheet .entry)) (r .0) ⌝ }
 {

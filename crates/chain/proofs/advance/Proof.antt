@@ -115,21 +115,21 @@ module _ {M : Type 1} (𝓤 : URA M) (H : Heap 𝓤) (A : Atoms 𝓤) (W : Given
 
   -- what the callee is passed, and that one copy of what the struct owns gives what it asks
   abbrev passed : Vals term-at.signature (κ′, tt)
-  passed = (sliceVal (d .sheet .ptr) (length (d .sheet .now)) ∷ [], (N′.lowered (d .next) ∷ [], (vint w16 m ∷ [], tt)))
+  passed = (sliceVal (d .sheet .ptr) (length (d .sheet .now)) ∷ [], (vint w16 m ∷ [], (N′.lowered (d .next) ∷ [], tt)))
 
   abbrev to : TermAt 𝓤 H A at-mem run .Ghost
-  to = (((κ′, tt), (q′, tt), tt, (d .sheet, (d .next, (m, tt))), passed), tt)
+  to = (((κ′, tt), (q′, tt), tt, (d .sheet, (m, (d .next, tt))), passed), tt)
 
   asked : ent 𝓤 (sep 𝓤 (sem 𝓤 H A Own) (sep 𝓤 (A .lft κ′ q′) (sem 𝓤 H A ftrue))) (TermAt 𝓤 H A at-mem run .pre to)
   asked =
       qed W (‵ Own ∷ (‵ (flft κ′ q′) ⊛ ‵ ftrue) ∷ []) ∵ says ! has $ move ! (1 ∷ []) $ frame ! $
       use1 W (given (mach ∷ [] ≡ mach ∷ []) (‵ (all-own (D .parts) L vd))) (own-open 𝓤 H A W D L vd mach) $ learn ! (λ _. fsplit ! $ move ! (1 ∷ []) $ fsplit ! $
       -- [what next owns; true; what sheet owns]
-      nothing ! $ owned ! u16 (Is u16) (uint-makes 𝓤 H A W w16) m _ (refl, m-fits) $ fjoin ! $ move ! (1 ∷ 0 ∷ []) $ fjoin ! $ move ! (2 ∷ 0 ∷ []) $ fjoin ! $
+      nothing ! $ move ! (1 ∷ 0 ∷ []) $ fjoin ! $ owned ! u16 (Is u16) (uint-makes 𝓤 H A W w16) m _ (refl, m-fits) $ fjoin ! $ move ! (2 ∷ 0 ∷ []) $ fjoin ! $
       move ! (1 ∷ []) $ drop ! $ done !)
 
-  said : (r : Term) → ent 𝓤 (ensured 𝓤 H A term-at.ended (term-at.clauses 𝓤 H A at-mem run) (κ′, tt) (d .sheet, (d .next, (m, tt))) tt r) (fact 𝓤 (r ≡ found))
-  said r = exE 𝓤 _ (λ ws. snd∗ 𝓤 (sem 𝓤 H A (lasts term-at.ended (κ′, tt) (d .sheet, (d .next, (m, tt))) ws)) (fact 𝓤 (r ≡ found)))
+  said : (r : Term) → ent 𝓤 (ensured 𝓤 H A term-at.ended (term-at.clauses 𝓤 H A at-mem run) (κ′, tt) (d .sheet, (m, (d .next, tt))) tt r) (fact 𝓤 (r ≡ found))
+  said r = exE 𝓤 _ (λ ws. snd∗ 𝓤 (sem 𝓤 H A (lasts term-at.ended (κ′, tt) (d .sheet, (m, (d .next, tt))) ws)) (fact 𝓤 (r ≡ found)))
 
   -- what sheet owns is kept, and next's facts are made anew
   again : (n : Record) → Is N.the-row n (N′.lowered n ∷ []) → ent 𝓤 (sem 𝓤 H A Own) (sem 𝓤 H A (R .own (d′ n) (T′.lowered (d′ n) ∷ [])))
@@ -160,8 +160,8 @@ module _ {M : Type 1} (𝓤 : URA M) (H : Heap 𝓤) (A : Atoms 𝓤) (W : Given
         -- what the Chain owns is had twice, and one copy goes to `term_at`
         move ! (1 ∷ []) $ use1 W (‵ Own ⊛ ‵ Own) (LL.copy D (T′.the-copy α) 𝓤 H A W .twice d (mach ∷ [])) $ split ! $
         move ! (0 ∷ 6 ∷ []) $ use2 W (raw (TermAt 𝓤 H A at-mem run .pre to)) asked $
-        calls-at ! fm (TermAt 𝓤 H A at-mem run) known to (and-then ! (load ! (from ! (stop !)) (look ! 9 refl)) (and-then ! (load ! (from ! (stop !)) (look ! 7 refl)) (and-then ! (load ! (from ! (stop !)) (look ! 13 refl)) (no-more !)))) (λ u.
-        use1 W (later (some (λ (r : Term). ((‵ (flft κ′ q′) ⊛ ‵ ftrue) ⊛ ‵ (S.the-row .own r (u ∷ []))) ⊛ raw (ensured 𝓤 H A term-at.ended (term-at.clauses 𝓤 H A at-mem run) (κ′, tt) (d .sheet, (d .next, (m, tt))) tt r)))) (id⊢ 𝓤 _) $ await ! tt $ pick ! (λ r.
+        calls-at ! fm (TermAt 𝓤 H A at-mem run) known to (and-then ! (load ! (from ! (stop !)) (look ! 9 refl)) (and-then ! (load ! (from ! (stop !)) (look ! 13 refl)) (and-then ! (load ! (from ! (stop !)) (look ! 7 refl)) (no-more !)))) (λ u.
+        use1 W (later (some (λ (r : Term). ((‵ (flft κ′ q′) ⊛ ‵ ftrue) ⊛ ‵ (S.the-row .own r (u ∷ []))) ⊛ raw (ensured 𝓤 H A term-at.ended (term-at.clauses 𝓤 H A at-mem run) (κ′, tt) (d .sheet, (m, (d .next, tt))) tt r)))) (id⊢ 𝓤 _) $ await ! tt $ pick ! (λ r.
         split ! $ move ! (1 ∷ []) $ use1 W (raw (fact 𝓤 (r ≡ found))) (said r) $ heard ! (r ≡ found) (λ e. split ! $ move ! (1 ∷ []) $
         -- [the term; 'a's token; what the Chain owns; the struct's cell; the open borrow; obs; auth; m's; _5; …; _4; …; room for _3; …; _2; …; _1; …; room for _0; …]
         peeks ! S.the-row (Is S.the-row) (shows 𝓤 H A S.the-row) r (u ∷ []) (λ is.
