@@ -1,0 +1,50 @@
+//! The four services as the archive has them: slices in, four numbers out. Each call is safe, since a Rust slice is what the archive asks of its pointers: not
+//! null, of the length given, and, where it is written, apart from the others. A call touches only what it is lent.
+
+/// An answer. `check` is 0, and the others are the values that the service gives; or it is the number of the check that refused, and `first` its place.
+#[repr(C)]
+#[derive(Clone, Copy, Debug, PartialEq, Eq, Hash)]
+pub struct Numbers {
+    pub check: u32,
+    pub first: u32,
+    pub second: u32,
+    pub third: u32,
+}
+
+unsafe extern "C" {
+    fn lihumbay_read(sheet: *const u8, sheet_length: usize) -> Numbers;
+    fn lihumbay_search(
+        sheet: *const u8,
+        sheet_length: usize,
+        grouping: *mut u8,
+        grouping_length: usize,
+        store: *mut u8,
+        store_length: usize,
+    ) -> Numbers;
+    fn lihumbay_evaluate(sheet: *const u8, sheet_length: usize, grouping: *const u8, grouping_length: usize) -> Numbers;
+    fn lihumbay_check(sheet: *const u8, sheet_length: usize, list: *const u8, list_length: usize) -> Numbers;
+}
+
+/// The reader: lots, conditions, terms.
+pub fn read(sheet: &[u8]) -> Numbers {
+    // SAFETY: a slice's pointer isn't null and has the slice's length.
+    unsafe { lihumbay_read(sheet.as_ptr(), sheet.len()) }
+}
+
+/// The search: 1 met or 2 cannot be met, then the count of records written. Check 9: the store is full. It needs up to 0.9 MB of stack.
+pub fn search(sheet: &[u8], grouping: &mut [u8], store: &mut [u8]) -> Numbers {
+    // SAFETY: as in `read`; slices that are lent by `&mut` overlap no other.
+    unsafe { lihumbay_search(sheet.as_ptr(), sheet.len(), grouping.as_mut_ptr(), grouping.len(), store.as_mut_ptr(), store.len()) }
+}
+
+/// The evaluator: 0 where the grouping meets every condition, else the lowest that it doesn't.
+pub fn evaluate(sheet: &[u8], grouping: &[u8]) -> Numbers {
+    // SAFETY: as in `read`.
+    unsafe { lihumbay_evaluate(sheet.as_ptr(), sheet.len(), grouping.as_ptr(), grouping.len()) }
+}
+
+/// The refutation checker: check 0 where the list is a refutation of the sheet.
+pub fn check(sheet: &[u8], list: &[u8]) -> Numbers {
+    // SAFETY: as in `read`.
+    unsafe { lihumbay_check(sheet.as_ptr(), sheet.len(), list.as_ptr(), list.len()) }
+}
