@@ -5,8 +5,8 @@ use mathlib.Core.Bool.{_||_}
 use mathlib.Core.List.{List, [], _∷_}
 use mathlib.Core.Path.{_≡_, refl, sym, ap, ap₂, subst, _∙_}
 use native.Mathlib.Omega.{arith}
-use native.Mathlib.Numerals.{add-one}
 use borrow.Author.Count.{below-more}
+use native.Mathlib.Numerals.{add-one}
 use lib.ListN.{length, getD, set, length-set}
 use lib.Seq.{getD-set-same, getD-set-other}
 use Rattle.sheet.specs.Format.{mostLots}
@@ -60,30 +60,9 @@ module _ (bytes : List ℕ) (count a b : ℕ) where
 
 -- ---- the pairs are within the bytes, and their lots within the map's entries
 
-pub within-none : (bytes : List ℕ) → PairsWithin bytes 0
-within-none bytes = record { within = omega arith; lots = λ i h. absurd (omega arith) }
-
-pub within-below : {bytes : List ℕ} {count : ℕ} → PairsWithin bytes count
-    → (bytes′ : List ℕ) → length bytes′ ≡ length bytes → ((i : ℕ) → i < 2 * count → getD bytes′ i 0 ≡ getD bytes i 0) → PairsWithin bytes′ count
-within-below {bytes} {count} h bytes′ len below =
-    record { within = omega (arith, h .within); lots = λ i lt. omega (arith, below i lt, h .lots i lt) }
-
 -- What is so of each byte before pair n, and of its two bytes, is so of each before the next pair.
 pair-more : (P : ℕ → Type 0) (n : ℕ) → ((i : ℕ) → i < 2 * n → P i) → P (2 * n) → P (2 * n + 1) → (i : ℕ) → i < 2 * suc n → P i
 pair-more P n below p q i h = below-more P (2 * n + 1) (below-more P (2 * n) below p) q i (omega arith)
-
-pub within-pair : {bytes : List ℕ} {count : ℕ} → PairsWithin bytes count → (a b : ℕ) → a ≤ mostLots → b ≤ mostLots
-    → 2 * count + 2 ≤ length bytes → PairsWithin (withPair bytes count a b) (count + 1)
-within-pair {bytes} {count} h a b ha hb room =
-    record {
-      within = simp length-set (omega arith);
-      lots = λ i lt.
-          pair-more (λ j. getD (withPair bytes count a b) j 0 ≤ mostLots) count
-          (λ j below. omega (arith, pair-leaves bytes count a b j below, h .lots j below))
-          (omega (arith, pair-first bytes count a b room))
-          (omega (arith, pair-second bytes count a b room))
-          i (omega arith);
-    }
 
 -- In a path whose lots have entries, so have the lots of the pairs.
 small-only : (ds : Decisions) → All Small ds → All Small (onlyApart ds)

@@ -1,6 +1,6 @@
 // The evaluator: whether the numbers that a grouping gives the lots meet a sheet.
 ghost use mathlib.Core.Path.{_≡_};
-ghost use Prim.Native.Nat.{ℕ, _≤_};
+ghost use Prim.Native.Nat.{_≤_};
 ghost use lib.ListN.{length};
 ghost use Rattle.sheet.specs.Format.{recordCount};
 ghost use Rattle.sheet.specs.Conditions.{termOf, termsFrom, conditions};

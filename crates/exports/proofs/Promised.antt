@@ -27,7 +27,7 @@ use Rattle.checker.specs.declared.CheckAnswer.{CheckAnswer}
 use Rattle.checker.specs.declared.CheckAnswer.the-variants as check
 use Rattle.checker.specs.Answers.{checkedAnswer, PassedExactly, PassedMeans}
 use Rattle.exports.specs.Answers.{numbersOf}
-use Rattle.exports.specs.Promises.{ZeroExactly, NineExactly, OneExactly, OneMeets, TwoExactly, TwoRefutes, SecondBounded, FirstUnmet, ZeroPassed, ZeroMeans}
+use Rattle.exports.specs.Promises.{ZeroExactly, NineExactly, OneExactly, OneMeets, TwoExactly, TwoRefutes, NodesBounded, FirstUnmet, ZeroPassed, ZeroMeans}
 use Rattle.exports.proofs.Early.{refusal-early}
 use Rattle.exports.proofs.Numbered.{refusal-numbered}
 
@@ -78,11 +78,12 @@ module _ (s grouping : List ℕ) where
   two-refutes store′ (Full capacity) early refutes = λ z e. absurd (omega (arith, z))
   two-refutes store′ (Refused check place) early refutes = λ z e. absurd (omega (arith, z, number check place early .0))
 
-  pub second : (a : SearchAnswer) → RefusedExactly a s grouping → CountBounded a s → SecondBounded (numbersOf (searchAnswer a)) s
-  second (Met count) early bound = λ z. bound
-  second (Cannot count) early bound = λ z. bound
-  second (Full capacity) early bound = λ z. absurd (omega (arith, z))
-  second (Refused check place) early bound = λ z. absurd (omega (arith, z, number check place early .0))
+  pub bounded : (a : SearchAnswer) → RefusedExactly a s grouping → CountBounded a s → NodesBounded (numbersOf (searchAnswer a)) s
+  bounded (Met count) early bound = ((λ z. bound), (λ e. absurd (omega (arith, e))))
+  bounded (Cannot count) early bound = ((λ z. bound), (λ e. absurd (omega (arith, e))))
+  bounded (Full capacity) early bound = ((λ z. absurd (omega (arith, z))), (λ e. bound))
+  bounded (Refused check place) early bound =
+      ((λ z. absurd (omega (arith, z, number check place early .0))), (λ e. absurd (omega (arith, e, number check place early .1))))
 
   -- An evaluation that refuses gives the first check that fails.
   evaluation-refuses : (check place : ℕ) → refused check place ≡ evaluateAnswer s grouping → groupingVerdict s grouping ≡ Refuses check place

@@ -1,5 +1,5 @@
 -- What the numbers promise of the sheet, beside the equations: for callers who see only them.
-use Prim.Native.Nat.{ℕ, _*_, _<_}
+use Prim.Native.Nat.{ℕ, _+_, _*_, _<_}
 use mathlib.Core.List.{List}
 use mathlib.Core.Logic.{_↔_}
 use mathlib.Core.Path.{_≡_}
@@ -39,9 +39,9 @@ TwoExactly r s = r .check ≡ 0 → (r .first ≡ 2 ↔ ((f : ℕ → ℕ) → �
 abbrev pub TwoRefutes : Numbers → List ℕ → List ℕ → Type 0
 TwoRefutes r s store′ = r .check ≡ 0 → r .first ≡ 2 → Refutes s (take (recordLength * r .second) store′)
 
--- The count is at most 2 × P − 1.
-abbrev pub SecondBounded : Numbers → List ℕ → Type 0
-SecondBounded r s = r .check ≡ 0 → r .second < 2 * branching (conditions s)
+-- The nodes are at most 2 × P − 1: the count is below 2 × P, and a store that is full holds fewer than 2 × P − 1 records.
+abbrev pub NodesBounded : Numbers → List ℕ → Type 0
+NodesBounded r s = (r .check ≡ 0 → r .second < 2 * branching (conditions s)) × (r .check ≡ 9 → r .first + 1 < 2 * branching (conditions s))
 
 -- Of an evaluation that was not refused: 0, and the grouping meets the sheet; or the lowest condition that it doesn't meet.
 abbrev pub FirstUnmet : Numbers → List ℕ → List ℕ → Type 0

@@ -8,7 +8,7 @@ ghost use Rattle.search.specs.Answers.{searchAnswer};
 ghost use Rattle.refutation.specs.Refutation.{checkAnswer};
 ghost use Rattle.checker.specs.Answers.{checkedAnswer};
 ghost use Rattle.exports.specs.Answers.{numbersOf};
-ghost use Rattle.exports.specs.Promises.{ZeroExactly, NineExactly, OneExactly, OneMeets, TwoExactly, TwoRefutes, SecondBounded, FirstUnmet, ZeroPassed, ZeroMeans};
+ghost use Rattle.exports.specs.Promises.{ZeroExactly, NineExactly, OneExactly, OneMeets, TwoExactly, TwoRefutes, NodesBounded, FirstUnmet, ZeroPassed, ZeroMeans};
 use checker::CheckAnswer;
 use evaluator::Evaluation;
 use search::SearchAnswer;
@@ -117,7 +117,7 @@ pub extern "C" fn lihumbay_search(sheet: &[u8], grouping: &mut [u8], store: &mut
     ensures meets { λ r. ⌜ OneMeets r (now (sheet .entry)) (now (grouping .exit)) ⌝ }
     ensures cannot { λ r. ⌜ TwoExactly r (now (sheet .entry)) ⌝ }
     ensures refutes { λ r. ⌜ TwoRefutes r (now (sheet .entry)) (now (store .exit)) ⌝ }
-    ensures count { λ r. ⌜ SecondBounded r (now (sheet .entry)) ⌝ }
+    ensures count { λ r. ⌜ NodesBounded r (now (sheet .entry)) ⌝ }
 {
     of_search(search::search(sheet, grouping, store))
 }

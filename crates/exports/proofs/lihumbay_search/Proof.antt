@@ -2,7 +2,7 @@
 use borrow.Author.Needs.{needs}
 use mathlib.Core.Path.{ap, _∙_}
 use Rattle.exports.specs.Answers.{numbersOf}
-use Rattle.exports.proofs.Promised.{nine, one, one-meets, two, two-refutes, second}
+use Rattle.exports.proofs.Promised.{nine, one, one-meets, two, two-refutes, bounded}
 use Rattle.exports.proofs.lihumbay_search.Statement.{statement}
 use Rattle.exports.proofs.lihumbay_search.Tie as tie
 
@@ -41,7 +41,7 @@ returns c =
                   rw (c .of-search .ensures) (two s grouping (called .result) early (promised .1 .1 .1 .1 .0)),
                   (
                     rw (c .of-search .ensures) (two-refutes s grouping (called .last .1 .1 .0) (called .result) early (promised .1 .1 .1 .1 .1 .0)),
-                    rw (c .of-search .ensures) (second s grouping (called .result) early (promised .1 .1 .1 .1 .1 .1)),
+                    rw (c .of-search .ensures) (bounded s grouping (called .result) early (promised .1 .1 .1 .1 .1 .1)),
                   ),
                 ),
               ),
