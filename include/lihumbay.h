@@ -1,4 +1,16 @@
-/* The services of Lihumbay, a verified solver for equality conditions. README.md, "Calling it from C and Rust". */
+/* The services of Lihumbay, a verified solver for equality conditions: each answers by a proved contract, for every input. README.md, "Calling it from C and
+   Rust", says how to build the archive.
+
+   Buffers. Each is a pointer and then its length in bytes. A pointer is not null, also where the length is 0. Bytes need no alignment. A buffer that is
+   written (grouping and store of a search) overlaps no other buffer of the call; buffers that are only read may overlap each other.
+
+   Limits. A sheet has at most 128 lots, 256 conditions and 1,024 term records, so at most 8,710 bytes. A record of a store or list has 8 bytes; a store holds
+   its length divided by 8, rounded down, at most 65,535 records; a list has at most 65,535. Nothing has to be checked beforehand: what is wrong is refused.
+
+   Threads. A call reads and writes only what it is lent, and its own stack: any number of calls may run at once as long as none writes what another uses. No
+   call allocates, blocks, or touches a global.
+
+   Stack. A search needs up to 0.9 MB, where a path has 1,024 splits; give its thread 1 MB. The others need less than 64 KB. */
 #ifndef LIHUMBAY_H
 #define LIHUMBAY_H
 
@@ -9,7 +21,24 @@
 extern "C" {
 #endif
 
-/* An answer. `check` is 0, and the others are the values that a service gives; or it is the number of the check that refused, and `first` its place. */
+/* An answer. `check` is 0, and the others are the values that the service gives, 0 where it has none; or `check` is the number of the check that refused, the
+   first in the table that fails, `first` is its place, and the others are 0.
+
+       1  fewer than 6 bytes                                            0
+       2  lots, conditions or term records above the most               1, 2 or 3
+       3  the sheet's length is wrong                                   0
+       4  a condition's first record is above the number of records     the condition
+       5  a term record is malformed                                    the record
+       6  a term record is reached a second time                        the record
+       7  a term record is never reached                                the record
+       8  the grouping has fewer bytes than the sheet has lots          the lots
+       9  the store is full                                             the records it holds
+      10  the list's length is 0, no multiple of 8, or too great        0
+      11  a record of the list is malformed                             the record
+      12  a term of the ground's condition isn't false                  the record
+      13  the split's next isn't the record where its second branch begins   the split
+      14  a record is left over, or the next one is missing             its number
+      15  1,024 splits stand above the split                            the record */
 typedef struct {
     uint32_t check;
     uint32_t first;
@@ -17,21 +46,22 @@ typedef struct {
     uint32_t third;
 } lihumbay_numbers;
 
-/* Each buffer is a pointer and then its length in bytes. A pointer is not null, also where the length is 0; a buffer that is written overlaps no other
-   buffer of the call. */
-
-/* The reader: lots, conditions, terms. */
+/* The reader: lots, conditions, term records. Checks 1 to 7. */
 lihumbay_numbers lihumbay_read(const uint8_t *sheet, size_t sheet_length);
 
-/* The search: 1 met or 2 cannot be met, then the count of records, then 0. Met: the first bytes of the grouping, one for each lot, are written. Met or cannot:
-   the first 8 * count bytes of the store are. Check 9, store full: the first 8 * `first` bytes of the store are zero. Nothing else is written. */
+/* The search: 1 met or 2 cannot be met, then the count of records, then 0. Checks 1 to 9.
+   Met: the first bytes of the grouping, one for each lot, are written: the smallest lot of its class.
+   Met or cannot: the first 8 * count bytes of the store are written, one record for each node in the order of visit. Cannot: they are a refutation.
+   Check 9, store full: the first 8 * `first` bytes of the store are zero.
+   No other byte of either buffer is written. */
 lihumbay_numbers lihumbay_search(const uint8_t *sheet, size_t sheet_length, uint8_t *grouping, size_t grouping_length, uint8_t *store, size_t store_length);
 
-/* The evaluator: 0 where the grouping meets every condition, else the lowest condition that it doesn't; then 0, 0. */
+/* The evaluator: 0 where the grouping meets every condition, else the lowest condition that it doesn't meet; then 0, 0. Lot i has byte i - 1 of the grouping as
+   its number. Checks 1 to 8. */
 lihumbay_numbers lihumbay_evaluate(const uint8_t *sheet, size_t sheet_length, const uint8_t *grouping, size_t grouping_length);
 
-/* The refutation checker: 0, 0, 0 where the list, whole records from any hand, is a refutation of the sheet; then nobody can meet the sheet. The search's own is
-   the first 8 * count bytes of its store where it answers 2. */
+/* The refutation checker: 0, 0, 0 where the list, records from any hand, is a refutation of the sheet; then nobody can meet the sheet. The search's own is the
+   first 8 * count bytes of its store where it answers 2. Checks 1 to 7 and 10 to 15. */
 lihumbay_numbers lihumbay_check(const uint8_t *sheet, size_t sheet_length, const uint8_t *list, size_t list_length);
 
 #ifdef __cplusplus
