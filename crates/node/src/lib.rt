@@ -87,7 +87,7 @@ pub fn first_open(
 {
     let mut at = from;
     while at.0 != 0 {
-        let t = sheet::format::term_at(sheet, m, at);
+        let t = chain::term_at(sheet, at, m);
         let a = t.a;
         let b = t.b;
         let next = t.next;
