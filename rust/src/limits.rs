@@ -31,4 +31,8 @@ pub const fn sheet_length(conditions: usize, terms: usize) -> usize {
 }
 
 // A sheet's counts, heads and nexts have two bytes each.
-const _: () = assert!(MOST_LOTS <= u16::MAX as usize && MOST_CONDITIONS <= u16::MAX as usize && MOST_TERMS <= u16::MAX as usize);
+const _: () = {
+    assert!(MOST_LOTS < 1 << 16);
+    assert!(MOST_CONDITIONS < 1 << 16);
+    assert!(MOST_TERMS < 1 << 16);
+};

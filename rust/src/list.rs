@@ -67,6 +67,15 @@ impl From<Vec<u8>> for RecordList<'_> {
     }
 }
 
+impl<'a> IntoIterator for &'a RecordList<'_> {
+    type Item = Result<(u32, Record), RecordError>;
+    type IntoIter = Records<'a>;
+
+    fn into_iter(self) -> Records<'a> {
+        self.records()
+    }
+}
+
 /// The iterator of [`RecordList::records`]. After a record that can't be read it goes on with the next one.
 #[derive(Clone, Debug)]
 pub struct Records<'a> {
