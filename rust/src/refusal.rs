@@ -31,7 +31,9 @@ pub enum Subject {
 /// ```
 #[derive(Clone, Copy, Debug, PartialEq, Eq, Hash)]
 pub struct Refusal {
+    /// The check that refused.
     pub check: Check,
+    /// Where: a condition, a record, a count or a length, as the check says; 0 where it says none.
     pub place: u32,
 }
 

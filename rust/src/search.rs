@@ -25,7 +25,8 @@ pub enum Verdict<'a> {
 
 /// Searches with room for the most records that a store can have.
 ///
-/// The search runs on a thread of its own, with the stack that it needs, so this may be called from any thread.
+/// The search runs on a thread of its own, with the stack that it needs, so this may be called from any thread. For many small searches, to which starting a
+/// thread is much, there is [`search_into`].
 ///
 /// ```
 /// use lihumbay::{Sheet, Verdict};

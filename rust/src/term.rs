@@ -1,10 +1,12 @@
 //! Terms, and conditions as lists of them.
 use std::fmt;
 
-/// A term: two lots have the same number, or different ones.
+/// A term over two lots, which may be one lot twice.
 #[derive(Clone, Copy, Debug, PartialEq, Eq, Hash)]
 pub enum Term {
+    /// True when the two lots have the same number.
     Same(u16, u16),
+    /// True when they have different ones.
     Apart(u16, u16),
 }
 
@@ -44,6 +46,7 @@ pub(crate) const NEVER: &str = "never";
 pub struct Condition(Vec<Term>);
 
 impl Condition {
+    /// The terms in order.
     pub fn terms(&self) -> &[Term] {
         &self.0
     }

@@ -5,7 +5,9 @@ use crate::record::Record;
 /// The two branches of a split, in the order in which they are tried.
 #[derive(Clone, Copy, Debug, PartialEq, Eq, Hash)]
 pub enum Branch {
+    /// The split's lots are taken to be the same.
     Same,
+    /// They are taken to be apart.
     Apart,
 }
 
@@ -25,6 +27,7 @@ pub struct Step {
     pub record: Record,
     /// The number of splits above the record.
     pub depth: usize,
+    /// The nearest of them.
     pub above: Option<Above>,
 }
 

@@ -1,6 +1,7 @@
 //! The command on the sheets of document 01: what it prints, and how it ends.
 mod support;
 
+use lihumbay::{RECORD_LENGTH, Record};
 use std::io::{BufRead, BufReader, Read, Write};
 use std::process::Stdio;
 use support::{Run, Scratch, command, encoded, run};
@@ -96,7 +97,7 @@ fn a_refutation_passes_the_checker() {
     assert_said(&run(&["check", sheet.path()], &bytes), 0, passed);
     assert_said(&run(&["check", "-", list.path()], &encoded(A)), 0, passed);
     assert_complained(
-        &run(&["check", sheet.path()], &bytes[..32]),
+        &run(&["check", sheet.path()], &bytes[..4 * RECORD_LENGTH]),
         1,
         "standard input: check 14, a record is left over, or missing: record 5",
     );
@@ -117,13 +118,15 @@ fn a_grouping_passes_the_evaluator() {
 #[test]
 fn lists_are_refused_with_status_1() {
     let sheet = Scratch::with("sheet", &encoded(A));
-    let refused =
-        |list: &[u8], message: &str| assert_complained(&run(&["check", sheet.path()], list), 1, &format!("standard input: {message}"));
+    let refused = |list: &[u8], message: &str| {
+        assert_complained(&run(&["check", sheet.path()], list), 1, &format!("standard input: {message}"));
+    };
+    let bytes = |record: Record| record.to_bytes().expect("the record is small");
     refused(&[], "check 10, the list is empty, too long, or not made of whole records");
-    refused(&[0; 9], "check 10, the list is empty, too long, or not made of whole records");
-    let unknown = "check 11, a record's kind, spare byte, lot or condition is out of range, or a ground's unused field isn't 0: record 1";
-    refused(&[3, 0, 0, 0, 0, 0, 0, 0], unknown);
-    refused(&[2, 0, 1, 0, 0, 0, 0, 0], "check 12, a ground's condition has a term that isn't false there: record 1");
+    refused(&[0; RECORD_LENGTH + 1], "check 10, the list is empty, too long, or not made of whole records");
+    refused(&bytes(Record::Ground { condition: 1 }), "check 12, a ground's condition has a term that isn't false there: record 1");
+    let kind = "check 11, a record's kind, spare byte, lot or condition is out of range, or a ground's unused field isn't 0: record 1";
+    refused(&bytes(Record::Met), kind);
 }
 
 #[test]
@@ -153,6 +156,7 @@ fn text_and_sheets_are_told_apart() {
 #[test]
 fn text_goes_to_bytes_and_back() {
     assert_eq!(encoded("# sheet C\nsame 1 2|same 1 3\n\napart 1 2"), C);
+    assert_eq!(encoded("\u{feff}same 1 2 | same 1 3\r\napart 1 2\r\n"), C);
     assert_said(&run(&["decode"], C), 0, "lots 3\nsame 1 2 | same 1 3\napart 1 2\n");
     for text in ["lots 0\n", "lots 7\nnever\nsame 7 7\nnever\n", "lots 128\napart 128 1 | same 2 2\n"] {
         assert_said(&run(&["decode"], &encoded(text)), 0, text);

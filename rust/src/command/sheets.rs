@@ -25,6 +25,8 @@ pub fn encode(source: &Source) -> Result<Status, Failure> {
     let bytes = source.bytes()?;
     let text = std::str::from_utf8(&bytes).ok().filter(|_| is_text(&bytes));
     let text = text.ok_or_else(|| source.failure("this isn't text; if it is a sheet, `lihumbay decode` writes it as text"))?;
+    // Some editors begin a file with this mark.
+    let text = text.strip_prefix('\u{feff}').unwrap_or(text);
     let sheet: Sheet = text.parse().map_err(|error| source.failure(error))?;
     files::print(|out| out.write_all(&sheet.to_bytes()))
 }
