@@ -187,6 +187,7 @@ fn wrong_arguments_are_refused() {
     wrong(&["check", "--dot"], "there is no option `--dot`; see `lihumbay check --help`");
     wrong(&["search", "--dot=svg"], "`--dot` takes no value; see `lihumbay search --help`");
     wrong(&["search", "--records"], "`--records` needs a value; see `lihumbay search --help`");
+    wrong(&["search", "--records=+1"], "`--records` is a number from 0 to 65535, not `+1`; see `lihumbay search --help`");
     wrong(&["search", "--records", "65536"], "`--records` is a number from 0 to 65535, not `65536`; see `lihumbay search --help`");
     wrong(&["search", "--grouping", "-"], "`--grouping` needs the name of a file; see `lihumbay search --help`");
     wrong(&["search", "a", "b"], "2 files are given, where the sheet should be; see `lihumbay search --help`");

@@ -1,5 +1,7 @@
 //! Made-up sheets, texts and bytes: what one function writes another one reads, and nothing panics.
-use lihumbay::{Evaluation, RecordList, Sheet, SheetBuilder, Term, Verdict};
+use lihumbay::{
+    Evaluation, HEAD_LENGTH, HEADER_LENGTH, MOST_LOTS, RECORD_LENGTH, RecordList, Sheet, SheetBuilder, TERM_LENGTH, Term, Verdict,
+};
 
 /// A small generator, the same at each run.
 struct Random(u64);
@@ -34,18 +36,18 @@ impl Random {
 
 /// The same sheet with its records at other places.
 fn repacked(bytes: &[u8], conditions: usize, random: &mut Random) -> Vec<u8> {
-    let start = 6 + 2 * conditions;
-    let order = random.shuffled((bytes.len() - start) / 8);
+    let start = HEADER_LENGTH + HEAD_LENGTH * conditions;
+    let order = random.shuffled((bytes.len() - start) / TERM_LENGTH);
     let moved = |number: [u8; 2]| match usize::from(u16::from_le_bytes(number)) {
         0 => [0, 0],
         number => (order[number - 1] as u16 + 1).to_le_bytes(),
     };
     let mut written = bytes.to_vec();
-    for at in (6..start).step_by(2) {
+    for at in (HEADER_LENGTH..start).step_by(HEAD_LENGTH) {
         written[at..at + 2].copy_from_slice(&moved([bytes[at], bytes[at + 1]]));
     }
-    for (record, &place) in bytes[start..].chunks(8).zip(&order) {
-        let to = start + 8 * place;
+    for (record, &place) in bytes[start..].chunks(TERM_LENGTH).zip(&order) {
+        let to = start + TERM_LENGTH * place;
         written[to..to + 6].copy_from_slice(&record[..6]);
         written[to + 6..to + 8].copy_from_slice(&moved([record[6], record[7]]));
     }
@@ -71,7 +73,7 @@ fn verdicts_pass_the_other_services() {
     let (mut met, mut cannot) = (0, 0);
     for _ in 0..2000 {
         let sheet = random.sheet().to_bytes();
-        let (mut grouping, mut store) = ([0; 128], [0; 4000]);
+        let (mut grouping, mut store) = ([0; MOST_LOTS], [0; 500 * RECORD_LENGTH]);
         match lihumbay::search_into(&sheet, &mut grouping, &mut store).unwrap() {
             Verdict::Met { grouping, .. } => {
                 met += 1;

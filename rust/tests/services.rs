@@ -1,5 +1,5 @@
 //! The services through the package's types, on the sheets of document 01.
-use lihumbay::{Evaluation, MOST_RECORDS, MOST_TERMS, RECORD_LENGTH, Record, RecordList, Sheet, SheetBuilder, Term, Verdict};
+use lihumbay::{Evaluation, MOST_RECORDS, MOST_TERMS, RECORD_LENGTH, Record, RecordList, SEARCH_STACK, Sheet, SheetBuilder, Term, Verdict};
 
 fn sheet(text: &str) -> Vec<u8> {
     text.parse::<Sheet>().expect("a test's sheet is well written").to_bytes()
@@ -86,6 +86,16 @@ fn a_deep_search_runs_from_a_thread_with_a_small_stack() {
     let Verdict::Cannot { refutation } = verdict else { panic!("nothing meets the sheet") };
     assert_eq!(refutation.walk().map(|step| step.unwrap().depth).max(), Some(MOST_TERMS));
     assert_eq!(lihumbay::check(&deepest(), refutation.as_bytes()), Ok(()));
+}
+
+#[test]
+fn lent_buffers_need_the_stack_that_is_said() {
+    let search = || {
+        lihumbay::search_into(&deepest(), &mut [0; 128], &mut vec![0; 3000 * RECORD_LENGTH])
+            .map(|verdict| matches!(verdict, Verdict::Cannot { .. }))
+    };
+    let ended = std::thread::Builder::new().stack_size(SEARCH_STACK).spawn(search).unwrap().join().unwrap();
+    assert_eq!(ended, Ok(true));
 }
 
 #[test]

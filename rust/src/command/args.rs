@@ -65,6 +65,7 @@ impl Arguments<'_> {
         let name = topic.as_deref().map(OsStr::to_string_lossy);
         match name {
             None => Ok(Request::Help(help::WHOLE.into())),
+            Some(name) if is_help(&name) => Ok(Request::Help(help::WHOLE.into())),
             Some(name) => help::of(&name).map(Request::Help).ok_or_else(|| wrong(&format!("there is no command `{name}`"), "")),
         }
     }
@@ -125,7 +126,8 @@ impl Arguments<'_> {
 
     fn record_count(&mut self, joined: Option<OsString>) -> Result<usize, Failure> {
         let value = self.value("--records", joined)?;
-        let number = value.to_str().and_then(|text| text.parse().ok()).filter(|&number: &usize| number <= MOST_RECORDS);
+        let digits = value.to_str().filter(|text| text.bytes().all(|byte| byte.is_ascii_digit()));
+        let number = digits.and_then(|text| text.parse().ok()).filter(|&number: &usize| number <= MOST_RECORDS);
         number.ok_or_else(|| wrong(&format!("`--records` is a number from 0 to {MOST_RECORDS}, not `{}`", value.display()), self.command))
     }
 
