@@ -9,7 +9,9 @@ fn built_by_rt(root: &Path) -> PathBuf {
     match built {
         Ok(status) if status.success() => root.join("target/staticlib"),
         Ok(status) => panic!("`rt staticlib exports` ended with {status}"),
-        Err(error) => panic!("`rt` can't be run ({error}): the Rattle toolchain is needed, or LIHUMBAY_ARCHIVE, a folder with libexports.a"),
+        Err(error) => {
+            panic!("`rt` can't be run ({error}): the Rattle toolchain is needed, or LIHUMBAY_ARCHIVE, a folder with libexports.a")
+        }
     }
 }
 

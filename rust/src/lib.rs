@@ -1,2 +1,53 @@
 //! A verified solver for equality conditions: safe functions over the proved services.
+//!
+//! A *sheet* has lots 1 to n and conditions, each a choice of terms "lots a and b the same" or "lots a and b apart". Four services take its bytes:
+//! [`read`] accepts or refuses them, [`search`] finds a grouping that meets every condition or a refutation, [`check`] checks a refutation from any hand, and
+//! [`evaluate`] says whether a grouping meets the sheet. What they answer is proved; the types here only give the numbers and bytes their names.
+//!
+//! ```
+//! use lihumbay::{SheetBuilder, Term, Verdict};
+//!
+//! let mut builder = SheetBuilder::new(3)?;
+//! builder.condition([Term::Same(1, 2)])?.condition([Term::Same(2, 3)])?.condition([Term::Apart(1, 3)])?;
+//! let sheet = builder.finish().to_bytes();
+//!
+//! match lihumbay::search(&sheet)? {
+//!     Verdict::Met { grouping, .. } => println!("groups: {:?}", grouping.groups()),
+//!     Verdict::Cannot { refutation } => {
+//!         assert_eq!(refutation.count(), 5);
+//!         lihumbay::check(&sheet, refutation.as_bytes())?;
+//!     }
+//!     Verdict::Full { capacity } => println!("more than {capacity} nodes"),
+//! }
+//! # Ok::<(), Box<dyn std::error::Error>>(())
+//! ```
+//!
+//! Sheets also have a text form, [`Sheet`]'s `FromStr` and `Display`. [`raw`] has the services with their numbers as the archive gives them.
+#![warn(missing_debug_implementations)]
+
+mod bytes;
+mod grouping;
+mod limits;
+mod line;
+mod list;
 pub mod raw;
+mod record;
+mod refusal;
+mod search;
+mod services;
+mod sheet;
+mod term;
+mod text;
+mod walk;
+
+pub use grouping::Grouping;
+pub use limits::*;
+pub use list::{RecordError, RecordList, Records};
+pub use record::Record;
+pub use refusal::{Check, Refusal, Subject};
+pub use search::{Verdict, search, search_into, search_within};
+pub use services::{Evaluation, Reading, check, evaluate, read};
+pub use sheet::{LimitError, Sheet, SheetBuilder};
+pub use term::{Condition, Term};
+pub use text::TextError;
+pub use walk::{Above, Branch, Step, Walk};

@@ -1,0 +1,114 @@
+//! The help texts. Lines are at most 80 characters long.
+use lihumbay::{MOST_CONDITIONS, MOST_LOTS, MOST_RECORDS, MOST_TERMS};
+
+pub const WHOLE: &str = "\
+lihumbay: a verified solver for equality conditions
+
+Usage: lihumbay COMMAND [OPTIONS] [FILES]
+
+Commands:
+  encode    make a sheet of readable text
+  decode    write a sheet as readable text
+  search    find a grouping that meets a sheet, or a refutation
+  check     check a refutation from any hand
+  evaluate  say whether a grouping meets a sheet
+
+  COMMAND --help, help COMMAND   what a command takes and writes
+  --version                      the version
+
+A file that is `-`, or the last one if it is missing, is standard input.
+
+Exit status:
+  0  met, passed, written
+  1  cannot be met, refused by the refutation checker, not met
+  2  a refused sheet, a file that can't be read or written, wrong arguments
+  3  a search's store is full, which says neither met nor cannot
+";
+
+fn encode() -> String {
+    format!(
+        "\
+Usage: lihumbay encode [TEXT] > SHEET
+
+Makes a sheet of readable text, and writes its bytes to standard output.
+
+  # Three lots, two conditions.
+  lots 3
+  same 1 2 | same 1 3
+  apart 1 2
+
+Each line is a condition: one term or more, parted by `|`. `same A B` is true
+when lots A and B have the same number, `apart A B` when they have different
+ones. A condition is met when a term is true, a sheet when all conditions are.
+The line `never` is a condition with no term, which nothing meets.
+
+`lots N` may stand before the conditions; without it the lots are 1 to the
+highest named. `#` begins a comment. Empty lines are passed over.
+
+A sheet has at most {MOST_LOTS} lots, {MOST_CONDITIONS} conditions and {MOST_TERMS} terms.
+"
+    )
+}
+
+const DECODE: &str = "\
+Usage: lihumbay decode [SHEET]
+
+Writes a sheet as the text that `lihumbay encode` reads. Encoded again, it is a
+sheet with the same lots and conditions, its records in order of condition.
+";
+
+fn search() -> String {
+    format!(
+        "\
+Usage: lihumbay search [OPTIONS] [SHEET]
+
+Searches for a grouping that meets the sheet. The report is
+  met            and a line for each group, the lots that have one number;
+  cannot be met  and the refutation, a line for each of its records: a split,
+                 and below it what follows when its lots are the same, then
+                 when they are apart; a ground with its condition, of which
+                 every term is false there;
+  store full     where the search visits more nodes than the store has records.
+
+Options:
+  --records N        a store of N records, at most (and if not given) {MOST_RECORDS}
+  --dot              no report: the nodes visited, as a Graphviz graph
+  --refutation FILE  if there is a refutation, write its records to FILE, which
+                     `lihumbay check` takes
+  --grouping FILE    if there is a grouping, write its bytes to FILE, which
+                     `lihumbay evaluate` takes
+
+Exit status: 0 met, 1 cannot be met, 2 a refused sheet, 3 store full.
+"
+    )
+}
+
+const CHECK: &str = "\
+Usage: lihumbay check SHEET [LIST]
+
+Checks a list of records, from any hand. If it passes, nothing meets the sheet.
+
+Exit status: 0 passed, 1 the list is refused, 2 the sheet is refused.
+";
+
+const EVALUATE: &str = "\
+Usage: lihumbay evaluate SHEET [GROUPING]
+
+Says whether a grouping meets the sheet: a byte for each lot, its number. Where
+it doesn't, the lowest condition that isn't met is named.
+
+Exit status: 0 all conditions are met, 1 one isn't, 2 the sheet is refused or
+the grouping is shorter than the number of lots.
+";
+
+/// The help of a command, if there is such a command.
+pub fn of(command: &str) -> Option<String> {
+    Some(match command {
+        "encode" => encode(),
+        "decode" => DECODE.into(),
+        "search" => search(),
+        "check" => CHECK.into(),
+        "evaluate" => EVALUATE.into(),
+        _ => return None,
+    })
+}

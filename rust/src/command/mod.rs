@@ -1,0 +1,39 @@
+//! What the command does with its arguments.
+mod answers;
+mod args;
+mod dot;
+mod ending;
+mod files;
+mod help;
+mod report;
+mod search;
+mod sheets;
+mod wait;
+
+use args::Request;
+use ending::{Failure, Status};
+use std::ffi::OsString;
+use std::process::ExitCode;
+
+/// Runs the command, and says on standard error what went wrong.
+pub fn run(arguments: impl Iterator<Item = OsString>) -> ExitCode {
+    match args::parse(arguments).and_then(answer) {
+        Ok(status) => status.into(),
+        Err(failure) => {
+            files::complain(&failure.message);
+            failure.status.into()
+        }
+    }
+}
+
+fn answer(request: Request) -> Result<Status, Failure> {
+    match request {
+        Request::Help(text) => files::print(|out| out.write_all(text.as_bytes())),
+        Request::Version => files::print(|out| writeln!(out, "lihumbay {}", env!("CARGO_PKG_VERSION"))),
+        Request::Encode { text } => sheets::encode(&text),
+        Request::Decode { sheet } => sheets::decode(&sheet),
+        Request::Search(search) => search::run(&search),
+        Request::Check { sheet, list } => answers::check(&sheet, &list),
+        Request::Evaluate { sheet, grouping } => answers::evaluate(&sheet, &grouping),
+    }
+}

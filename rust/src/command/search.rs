@@ -1,0 +1,66 @@
+//! `search`.
+use super::args::Search;
+use super::ending::{Failure, Status};
+use super::sheets::{self, Accepted};
+use super::wait::with_notice;
+use super::{dot, files, report};
+use lihumbay::Verdict;
+use std::io::{self, IsTerminal};
+use std::time::Duration;
+
+/// When a search is called long.
+const LONG: Duration = Duration::from_secs(1);
+
+pub fn run(search: &Search) -> Result<Status, Failure> {
+    let accepted = sheets::read(&search.sheet)?;
+    let work = || lihumbay::search_within(&accepted.bytes, search.records);
+    let verdict = with_notice(work, LONG, notice).map_err(|refusal| search.sheet.failure(refusal))?;
+    // The files come first: a reader of the report who stops early loses none of them.
+    save(search, &verdict)?;
+    if search.dot {
+        draw(&accepted, &verdict)?
+    } else {
+        tell(&accepted, &verdict)?
+    };
+    Ok(match verdict {
+        Verdict::Met { .. } => Status::Yes,
+        Verdict::Cannot { .. } => Status::No,
+        Verdict::Full { .. } => Status::Full,
+    })
+}
+
+fn notice() {
+    if io::stderr().is_terminal() {
+        files::complain("still searching");
+    }
+}
+
+fn save(search: &Search, verdict: &Verdict) -> Result<(), Failure> {
+    let (wanted, bytes) = match verdict {
+        Verdict::Met { grouping, .. } => (&search.grouping, grouping.as_bytes()),
+        Verdict::Cannot { refutation } => (&search.refutation, refutation.as_bytes()),
+        Verdict::Full { .. } => return Ok(()),
+    };
+    wanted.as_ref().map_or(Ok(()), |path| files::save(path, bytes))
+}
+
+fn tell(accepted: &Accepted, verdict: &Verdict) -> Result<Status, Failure> {
+    files::print(|out| match verdict {
+        Verdict::Met { grouping, records } => report::met(out, grouping, records),
+        Verdict::Cannot { refutation } => report::cannot(out, &accepted.sheet, refutation),
+        Verdict::Full { capacity } => writeln!(out, "{}", full(*capacity)),
+    })
+}
+
+fn draw(accepted: &Accepted, verdict: &Verdict) -> Result<Status, Failure> {
+    match verdict {
+        Verdict::Met { records, .. } => files::print(|out| dot::graph(out, &accepted.sheet, records)),
+        Verdict::Cannot { refutation } => files::print(|out| dot::graph(out, &accepted.sheet, refutation)),
+        // There is no graph, so nothing goes where one is expected.
+        Verdict::Full { capacity } => Err(Failure::new(full(*capacity)).with(Status::Full)),
+    }
+}
+
+fn full(capacity: usize) -> String {
+    format!("store full: the search visits more than {capacity} nodes")
+}

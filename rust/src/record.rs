@@ -1,0 +1,80 @@
+//! One record of a store or a list, and its bytes.
+use crate::limits::RECORD_LENGTH;
+use std::fmt;
+
+/// A node of a search, or of a refutation from any hand.
+#[derive(Clone, Copy, Debug, PartialEq, Eq, Hash)]
+#[non_exhaustive]
+pub enum Record {
+    /// Lots a and b are tried the same, in the records that follow, and then apart, from record `next` on; 0 where that branch was never visited.
+    Split { a: u16, b: u16, next: u32 },
+    /// Every term of the condition is false.
+    Ground { condition: u16 },
+    /// Every condition is met.
+    Met,
+}
+
+const SPLIT: u8 = 1;
+const GROUND: u8 = 2;
+const MET: u8 = 3;
+
+impl Record {
+    /// The record that the bytes have; none where the kind is no record's, or a byte that has to be 0 isn't.
+    pub fn from_bytes(bytes: [u8; RECORD_LENGTH]) -> Option<Record> {
+        let [kind, spare, a, a_high, b, b_high, next, next_high] = bytes;
+        let (first, second, next) =
+            (u16::from_le_bytes([a, a_high]), u16::from_le_bytes([b, b_high]), u16::from_le_bytes([next, next_high]));
+        match (kind, spare, second, next) {
+            (SPLIT, 0, b, next) => Some(Record::Split { a: first, b, next: u32::from(next) }),
+            (GROUND, 0, 0, 0) => Some(Record::Ground { condition: first }),
+            (MET, 0, 0, 0) if first == 0 => Some(Record::Met),
+            _ => None,
+        }
+    }
+
+    /// The record's bytes; none where `next` is too large for them.
+    pub fn to_bytes(self) -> Option<[u8; RECORD_LENGTH]> {
+        let (kind, first, second, next) = match self {
+            Record::Split { a, b, next } => (SPLIT, a, b, u16::try_from(next).ok()?),
+            Record::Ground { condition } => (GROUND, condition, 0, 0),
+            Record::Met => (MET, 0, 0, 0),
+        };
+        let ([a, a_high], [b, b_high], [next, next_high]) = (first.to_le_bytes(), second.to_le_bytes(), next.to_le_bytes());
+        Some([kind, 0, a, a_high, b, b_high, next, next_high])
+    }
+}
+
+impl fmt::Display for Record {
+    fn fmt(&self, f: &mut fmt::Formatter) -> fmt::Result {
+        match self {
+            Record::Split { a, b, .. } => write!(f, "split {a} {b}"),
+            Record::Ground { condition } => write!(f, "ground {condition}"),
+            Record::Met => write!(f, "met"),
+        }
+    }
+}
+
+#[cfg(test)]
+mod tests {
+    use super::*;
+
+    #[test]
+    fn bytes_and_records_are_one_to_one() {
+        let records = [Record::Split { a: 1, b: 300, next: 65_535 }, Record::Ground { condition: 256 }, Record::Met];
+        for record in records {
+            assert_eq!(record.to_bytes().and_then(Record::from_bytes), Some(record));
+        }
+    }
+
+    #[test]
+    fn other_bytes_are_no_record() {
+        let others = [[0; 8], [4, 0, 0, 0, 0, 0, 0, 0], [1, 1, 0, 0, 0, 0, 0, 0], [2, 0, 1, 0, 1, 0, 0, 0], [2, 0, 1, 0, 0, 0, 0, 1]];
+        assert!(others.into_iter().all(|bytes| Record::from_bytes(bytes).is_none()));
+        assert_eq!(Record::from_bytes([3, 0, 1, 0, 0, 0, 0, 0]), None);
+    }
+
+    #[test]
+    fn a_next_too_large_has_no_bytes() {
+        assert_eq!(Record::Split { a: 1, b: 2, next: 65_536 }.to_bytes(), None);
+    }
+}

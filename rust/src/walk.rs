@@ -1,0 +1,84 @@
+//! The tree that a list of records makes.
+use crate::list::{RecordError, Records};
+use crate::record::Record;
+
+/// The two branches of a split, in the order in which they are tried.
+#[derive(Clone, Copy, Debug, PartialEq, Eq, Hash)]
+pub enum Branch {
+    /// The split's lots are taken to be the same.
+    Same,
+    /// They are taken to be apart.
+    Apart,
+}
+
+/// A split that a record stands directly under, and the branch in which it does.
+#[derive(Clone, Copy, Debug, PartialEq, Eq, Hash)]
+pub struct Above {
+    pub number: u32,
+    pub a: u16,
+    pub b: u16,
+    pub branch: Branch,
+}
+
+/// A record and its place in the tree. The first record stands under nothing; nor does a record left over after the last branch.
+#[derive(Clone, Copy, Debug, PartialEq, Eq, Hash)]
+pub struct Step {
+    pub number: u32,
+    pub record: Record,
+    /// The number of splits above the record.
+    pub depth: usize,
+    /// The nearest of them.
+    pub above: Option<Above>,
+}
+
+/// The iterator of [`RecordList::walk`](crate::RecordList::walk). Branches follow from the order of the records alone; a split's next isn't looked at.
+///
+/// ```
+/// use lihumbay::{Branch, Sheet, Verdict};
+/// let sheet = "same 1 2\napart 1 2".parse::<Sheet>()?.to_bytes();
+/// let Verdict::Cannot { refutation } = lihumbay::search(&sheet)? else { panic!() };
+/// let steps = refutation.walk().collect::<Result<Vec<_>, _>>()?;
+/// assert_eq!(steps.iter().map(|step| step.depth).collect::<Vec<_>>(), [0, 1, 1]);
+/// assert_eq!(steps[2].above.map(|above| above.branch), Some(Branch::Apart));
+/// # Ok::<(), Box<dyn std::error::Error>>(())
+/// ```
+#[derive(Clone, Debug)]
+pub struct Walk<'a> {
+    records: Records<'a>,
+    /// The splits above the next record, with the branch in which it stands.
+    path: Vec<Above>,
+}
+
+impl<'a> Walk<'a> {
+    pub(crate) fn new(records: Records<'a>) -> Self {
+        Walk { records, path: Vec::new() }
+    }
+
+    /// Goes to where the record after this one stands.
+    fn pass(&mut self, number: u32, record: Record) {
+        if let Record::Split { a, b, .. } = record {
+            self.path.push(Above { number, a, b, branch: Branch::Same });
+            return;
+        }
+        while let Some(split) = self.path.last_mut() {
+            if split.branch == Branch::Same {
+                split.branch = Branch::Apart;
+                return;
+            }
+            self.path.pop();
+        }
+    }
+}
+
+impl Iterator for Walk<'_> {
+    type Item = Result<Step, RecordError>;
+
+    fn next(&mut self) -> Option<Self::Item> {
+        let read = self.records.next()?;
+        Some(read.map(|(number, record)| {
+            let step = Step { number, record, depth: self.path.len(), above: self.path.last().copied() };
+            self.pass(number, record);
+            step
+        }))
+    }
+}

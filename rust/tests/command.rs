@@ -1,0 +1,257 @@
+//! The command on the sheets of document 01: what it prints, and how it ends.
+mod support;
+
+use lihumbay::{RECORD_LENGTH, Record};
+use std::io::{BufRead, BufReader, Read, Write};
+use std::process::Stdio;
+use support::{Run, Scratch, command, encoded, run};
+
+const A: &str = "same 1 2\nsame 2 3\napart 1 3\n";
+const C: &[u8] = include_bytes!("../../samples/c.sheet");
+const D: &str = "apart 1 2 | apart 2 3 | apart 3 1\nsame 1 2 | same 2 3\nsame 1 2 | same 3 1\nsame 2 3 | same 3 1\n";
+
+const A_REPORT: &str = "\
+cannot be met: refutation of 5 records
+1  split 1 2
+2    same 1 2: split 2 3
+3      same 2 3: ground, condition 3: apart 1 3
+4      apart 2 3: ground, condition 2: same 2 3
+5    apart 1 2: ground, condition 1: same 1 2
+";
+
+const D_REPORT: &str = "\
+cannot be met: refutation of 7 records
+1  split 1 2
+2    same 1 2: split 2 3
+3      same 2 3: ground, condition 1: apart 1 2 | apart 2 3 | apart 3 1
+4      apart 2 3: ground, condition 4: same 2 3 | same 3 1
+5    apart 1 2: split 2 3
+6      same 2 3: ground, condition 3: same 1 2 | same 3 1
+7      apart 2 3: ground, condition 2: same 1 2 | same 2 3
+";
+
+const C_GRAPH: &str = r#"digraph search {
+  node [shape=box];
+  1 [label="1\nsplit 1 2"];
+  2 [label="2\nground, condition 2\napart 1 2", style=filled];
+  1 -> 2 [label="same 1 2"];
+  3 [label="3\nsplit 1 3"];
+  1 -> 3 [label="apart 1 2"];
+  4 [label="4\nmet", peripheries=2];
+  3 -> 4 [label="same 1 3"];
+}
+"#;
+
+/// A sheet whose search visits 65,533 nodes.
+fn large() -> Vec<u8> {
+    let pairs = (1..=14).map(|i| format!("same {} {} | same {} 100\n", 2 * i, 2 * i + 1, 2 * i));
+    encoded(&(pairs.collect::<String>() + "apart 1 1\n"))
+}
+
+/// The run wrote this, complained of nothing, and ended with this status.
+fn assert_said(run: &Run, status: i32, text: &str) {
+    assert_eq!((run.status, run.text(), run.errors.as_str()), (status, text, ""));
+}
+
+/// The run wrote nothing, complained so, and ended with this status.
+fn assert_complained(run: &Run, status: i32, message: &str) {
+    assert_eq!((run.status, run.text(), run.errors.as_str()), (status, "", format!("lihumbay: {message}\n").as_str()));
+}
+
+#[test]
+fn a_sheet_that_cannot_be_met_has_its_refutation_as_a_tree() {
+    assert_said(&run(&["search"], &encoded(A)), 1, A_REPORT);
+    assert_said(&run(&["search", "-"], &encoded(D)), 1, D_REPORT);
+    assert_said(&run(&["search"], &encoded("never")), 1, "cannot be met: refutation of 1 record\n1  ground, condition 1: never\n");
+}
+
+#[test]
+fn a_sheet_that_is_met_has_its_groups() {
+    assert_said(&run(&["search"], C), 0, "met: 2 groups, 4 records\n  1 3\n  2\n");
+    assert_said(&run(&["search"], &encoded("")), 0, "met: 0 groups, 1 record\n");
+}
+
+#[test]
+fn a_full_store_has_a_status_of_its_own() {
+    assert_said(&run(&["search", "--records", "3"], C), 3, "store full: the search visits more than 3 nodes\n");
+    assert_eq!(run(&["search", "--records=4"], C).status, 0);
+    assert_complained(&run(&["search", "--records=0", "--dot"], C), 3, "store full: the search visits more than 0 nodes");
+}
+
+#[test]
+fn a_search_can_be_drawn() {
+    assert_said(&run(&["search", "--dot"], C), 0, C_GRAPH);
+    let a = run(&["search", "--dot"], &encoded(A));
+    assert_eq!((a.status, a.text().matches(" -> ").count()), (1, 4));
+}
+
+#[test]
+fn a_refutation_passes_the_checker() {
+    let (sheet, list, grouping) = (Scratch::with("sheet", &encoded(A)), Scratch::unwritten("list"), Scratch::unwritten("grouping"));
+    let search = run(&["search", sheet.path(), "--refutation", list.path(), "--grouping", grouping.path()], &[]);
+    assert_said(&search, 1, A_REPORT);
+    assert_eq!(grouping.bytes(), None);
+    let passed = "passed: a refutation of 5 records, so nothing meets the sheet\n";
+    assert_said(&run(&["check", sheet.path(), list.path()], &[]), 0, passed);
+    let bytes = list.bytes().expect("the refutation is written");
+    assert_said(&run(&["check", sheet.path()], &bytes), 0, passed);
+    assert_said(&run(&["check", "-", list.path()], &encoded(A)), 0, passed);
+    assert_complained(
+        &run(&["check", sheet.path()], &bytes[..4 * RECORD_LENGTH]),
+        1,
+        "standard input: check 14, a record is left over, or missing: record 5",
+    );
+}
+
+#[test]
+fn a_grouping_passes_the_evaluator() {
+    let (sheet, list, grouping) = (Scratch::with("sheet", C), Scratch::unwritten("list"), Scratch::unwritten("grouping"));
+    let search = run(&["search", &format!("--refutation={}", list.path()), "--grouping", grouping.path(), "--", sheet.path()], &[]);
+    assert_eq!((search.status, list.bytes()), (0, None));
+    assert_eq!(grouping.bytes(), Some(vec![1, 2, 1]));
+    assert_said(&run(&["evaluate", sheet.path(), grouping.path()], &[]), 0, "all conditions are met\n");
+    assert_said(&run(&["evaluate", sheet.path()], &[1; 3]), 1, "condition 2 is not met: apart 1 2\n");
+    let short = "standard input: check 8, the grouping is shorter than the number of lots: lots 3";
+    assert_complained(&run(&["evaluate", sheet.path(), "-"], &[1; 2]), 2, short);
+}
+
+#[test]
+fn lists_are_refused_with_status_1() {
+    let sheet = Scratch::with("sheet", &encoded(A));
+    let refused = |list: &[u8], message: &str| {
+        assert_complained(&run(&["check", sheet.path()], list), 1, &format!("standard input: {message}"));
+    };
+    let bytes = |record: Record| record.to_bytes().expect("the record is small");
+    refused(&[], "check 10, the list is empty, too long, or not made of whole records");
+    refused(&[0; RECORD_LENGTH + 1], "check 10, the list is empty, too long, or not made of whole records");
+    refused(&bytes(Record::Ground { condition: 1 }), "check 12, a ground's condition has a term that isn't false there: record 1");
+    let kind = "check 11, a record's kind, spare byte, lot or condition is out of range, or a ground's unused field isn't 0: record 1";
+    refused(&bytes(Record::Met), kind);
+}
+
+#[test]
+fn sheets_are_refused_with_status_2_by_every_command() {
+    let empty = Scratch::with("empty", &[]);
+    let message = "standard input: check 1, the sheet is shorter than its header of 6 bytes";
+    for arguments in [["search", "-"].as_slice(), &["decode"], &["check", "-", empty.path()], &["evaluate", "-", empty.path()]] {
+        assert_complained(&run(arguments, &[1, 2, 3]), 2, message);
+    }
+    let mut head_too_high = C.to_vec();
+    head_too_high[8] = 4;
+    let message = "standard input: check 4, a condition's first record is above the number of records: condition 2";
+    assert_complained(&run(&["search"], &head_too_high), 2, message);
+    let longer = [&large()[..], &[0; 20_000]].concat();
+    assert!(run(&["search"], &longer).errors.contains("check 3, "));
+}
+
+#[test]
+fn text_and_sheets_are_told_apart() {
+    let text = run(&["search"], A.as_bytes());
+    assert_eq!((text.status, text.text()), (2, ""));
+    assert!(text.errors.ends_with("; this looks like text: `lihumbay encode` makes a sheet of it\n"), "{}", text.errors);
+    let message = "standard input: this isn't text; if it is a sheet, `lihumbay decode` writes it as text";
+    assert_complained(&run(&["encode"], C), 2, message);
+}
+
+#[test]
+fn text_goes_to_bytes_and_back() {
+    assert_eq!(encoded("# sheet C\nsame 1 2|same 1 3\n\napart 1 2"), C);
+    assert_eq!(encoded("\u{feff}same 1 2 | same 1 3\r\napart 1 2\r\n"), C);
+    assert_said(&run(&["decode"], C), 0, "lots 3\nsame 1 2 | same 1 3\napart 1 2\n");
+    for text in ["lots 0\n", "lots 7\nnever\nsame 7 7\nnever\n", "lots 128\napart 128 1 | same 2 2\n"] {
+        assert_said(&run(&["decode"], &encoded(text)), 0, text);
+    }
+}
+
+#[test]
+fn decoding_and_encoding_puts_records_in_order() {
+    let shuffled = [3, 0, 2, 0, 3, 0, 3, 0, 2, 0, 1, 0, 1, 0, 3, 0, 0, 0, 2, 0, 1, 0, 2, 0, 0, 0, 1, 0, 1, 0, 2, 0, 1, 0];
+    assert_eq!(encoded(run(&["decode"], &shuffled).text()), C);
+}
+
+#[test]
+fn wrong_text_is_refused_with_its_place() {
+    let lot = "standard input: line 2, column 20: lot 9 is out of range: lots count from 1 to 3";
+    assert_complained(&run(&["encode"], b"lots 3\nsame 1 2 | apart 3 9"), 2, lot);
+    let file = Scratch::with("text", b"\n  differ 1 2\n");
+    let word = format!("{}: line 2, column 3: `differ`: a term should stand here: `same` or `apart`, and two lots", file.path());
+    assert_complained(&run(&["encode", file.path()], &[]), 2, &word);
+}
+
+#[test]
+fn wrong_arguments_are_refused() {
+    let wrong = |arguments: &[&str], message: &str| assert_complained(&run(arguments, &[]), 2, message);
+    wrong(&[], "a command is missing; see `lihumbay --help`");
+    wrong(&["solve"], "there is no command `solve`; see `lihumbay --help`");
+    wrong(&["help", "solve"], "there is no command `solve`; see `lihumbay --help`");
+    wrong(&["check", "--dot"], "there is no option `--dot`; see `lihumbay check --help`");
+    wrong(&["search", "--dot=svg"], "`--dot` takes no value; see `lihumbay search --help`");
+    wrong(&["search", "--records"], "`--records` needs a value; see `lihumbay search --help`");
+    wrong(&["search", "--records=+1"], "`--records` is a number from 0 to 65535, not `+1`; see `lihumbay search --help`");
+    wrong(&["search", "--records", "65536"], "`--records` is a number from 0 to 65535, not `65536`; see `lihumbay search --help`");
+    wrong(&["search", "--grouping", "-"], "`--grouping` needs the name of a file; see `lihumbay search --help`");
+    wrong(&["search", "a", "b"], "2 files are given, where the sheet should be; see `lihumbay search --help`");
+    wrong(&["check"], "0 files are given, where the sheet and the list should be; see `lihumbay check --help`");
+    wrong(&["check", "-", "-"], "only one file can be standard input; see `lihumbay check --help`");
+}
+
+#[test]
+fn files_that_cannot_be_read_or_written_are_named() {
+    let nowhere = Scratch::unwritten("nowhere");
+    let read = run(&["search", nowhere.path()], &[]);
+    assert_eq!(read.status, 2);
+    assert!(read.errors.starts_with(&format!("lihumbay: {}: can't be read: ", nowhere.path())), "{}", read.errors);
+    let inside = format!("{}/grouping", nowhere.path());
+    let written = run(&["search", "--grouping", &inside], C);
+    assert_eq!((written.status, written.text()), (2, ""));
+    assert!(written.errors.starts_with(&format!("lihumbay: {inside}: can't be written: ")), "{}", written.errors);
+}
+
+#[test]
+fn help_is_there_for_the_whole_and_for_each_command() {
+    for arguments in [["--help"].as_slice(), &["-h"], &["help"]] {
+        let whole = run(arguments, &[]);
+        assert_eq!((whole.status, whole.errors.as_str()), (0, ""));
+        assert!(whole.text().contains("Exit status:"));
+    }
+    for name in ["encode", "decode", "search", "check", "evaluate"] {
+        let help = run(&[name, "--help"], &[]);
+        assert!(help.text().starts_with(&format!("Usage: lihumbay {name} ")), "{name}");
+        assert_said(&run(&["help", name], &[]), 0, help.text());
+        assert!(help.text().lines().all(|line| line.len() <= 80), "{name}");
+    }
+    assert_said(&run(&["--version"], &[]), 0, concat!("lihumbay ", env!("CARGO_PKG_VERSION"), "\n"));
+}
+
+#[test]
+fn a_reader_that_stops_early_ends_the_command_quietly() {
+    let sheet = Scratch::with("sheet", &large());
+    let child = command().args(["search", sheet.path()]).stdin(Stdio::null()).stdout(Stdio::piped()).stderr(Stdio::piped()).spawn();
+    let mut child = child.expect("the command starts");
+    let mut first = String::new();
+    BufReader::with_capacity(16, child.stdout.take().expect("output is piped")).read_line(&mut first).expect("a line comes");
+    assert_eq!(first, "cannot be met: refutation of 65533 records\n");
+    let mut errors = String::new();
+    child.stderr.take().expect("errors are piped").read_to_string(&mut errors).expect("messages are text");
+    assert_eq!((child.wait().expect("the command ends").code(), errors.as_str()), (Some(1), ""));
+}
+
+#[test]
+fn deep_records_say_how_deep_they_are() {
+    let terms: Vec<String> = (2..=60).map(|lot| format!("same 1 {lot}")).collect();
+    let report = run(&["search"], &encoded(&format!("{}\nnever", terms.join(" | "))));
+    assert!(report.text().contains(&format!("{}apart 1 41: split 1 42\n", "  ".repeat(40))));
+    assert!(report.text().contains(&format!("{}(41 deep) apart 1 42: split 1 43\n", "  ".repeat(40))));
+}
+
+#[test]
+fn a_sheet_is_found_whole_behind_a_slow_pipe() {
+    let child = command().arg("search").stdin(Stdio::piped()).stdout(Stdio::piped()).spawn();
+    let mut child = child.expect("the command starts");
+    let mut input = child.stdin.take().expect("input is piped");
+    for byte in C {
+        input.write_all(&[*byte]).and_then(|()| input.flush()).expect("the command reads");
+    }
+    drop(input);
+    assert_eq!(child.wait_with_output().expect("the command ends").status.code(), Some(0));
+}

@@ -1,0 +1,117 @@
+//! Made-up sheets, texts and bytes: what one function writes another one reads, and nothing panics.
+use lihumbay::{
+    Evaluation, HEAD_LENGTH, HEADER_LENGTH, MOST_LOTS, RECORD_LENGTH, RecordList, Sheet, SheetBuilder, TERM_LENGTH, Term, Verdict,
+};
+
+/// A small generator, the same at each run.
+struct Random(u64);
+
+impl Random {
+    fn below(&mut self, bound: usize) -> usize {
+        self.0 = self.0.wrapping_mul(6_364_136_223_846_793_005).wrapping_add(1_442_695_040_888_963_407);
+        (self.0 >> 33) as usize % bound
+    }
+
+    fn shuffled(&mut self, count: usize) -> Vec<usize> {
+        let mut order: Vec<usize> = (0..count).collect();
+        (1..count).rev().for_each(|last| order.swap(last, self.below(last + 1)));
+        order
+    }
+
+    fn term(&mut self, lots: u16) -> Term {
+        let (a, b) = (self.below(lots.into()) as u16 + 1, self.below(lots.into()) as u16 + 1);
+        if self.below(2) == 0 { Term::Same(a, b) } else { Term::Apart(a, b) }
+    }
+
+    fn sheet(&mut self) -> Sheet {
+        let lots = self.below(6) as u16 + 1;
+        let mut builder = SheetBuilder::new(lots).unwrap();
+        for _ in 0..self.below(9) {
+            let terms: Vec<Term> = (0..self.below(30).min(3)).map(|_| self.term(lots)).collect();
+            builder.condition(terms).unwrap();
+        }
+        builder.finish()
+    }
+}
+
+/// The same sheet with its records at other places.
+fn repacked(bytes: &[u8], conditions: usize, random: &mut Random) -> Vec<u8> {
+    let start = HEADER_LENGTH + HEAD_LENGTH * conditions;
+    let order = random.shuffled((bytes.len() - start) / TERM_LENGTH);
+    let moved = |number: [u8; 2]| match usize::from(u16::from_le_bytes(number)) {
+        0 => [0, 0],
+        number => (order[number - 1] as u16 + 1).to_le_bytes(),
+    };
+    let mut written = bytes.to_vec();
+    for at in (HEADER_LENGTH..start).step_by(HEAD_LENGTH) {
+        written[at..at + 2].copy_from_slice(&moved([bytes[at], bytes[at + 1]]));
+    }
+    for (record, &place) in bytes[start..].chunks(TERM_LENGTH).zip(&order) {
+        let to = start + TERM_LENGTH * place;
+        written[to..to + 6].copy_from_slice(&record[..6]);
+        written[to + 6..to + 8].copy_from_slice(&moved([record[6], record[7]]));
+    }
+    written
+}
+
+#[test]
+fn sheets_go_to_bytes_and_text_and_back() {
+    let mut random = Random(1);
+    for _ in 0..2000 {
+        let sheet = random.sheet();
+        let bytes = sheet.to_bytes();
+        let other = repacked(&bytes, sheet.conditions().len(), &mut random);
+        assert_eq!(Sheet::from_bytes(&bytes).as_ref(), Ok(&sheet));
+        assert_eq!(Sheet::from_bytes(&other).as_ref(), Ok(&sheet));
+        assert_eq!(sheet.to_string().parse().as_ref(), Ok(&sheet));
+    }
+}
+
+#[test]
+fn verdicts_pass_the_other_services() {
+    let mut random = Random(2);
+    let (mut met, mut cannot) = (0, 0);
+    for _ in 0..2000 {
+        let sheet = random.sheet().to_bytes();
+        let (mut grouping, mut store) = ([0; MOST_LOTS], [0; 500 * RECORD_LENGTH]);
+        match lihumbay::search_into(&sheet, &mut grouping, &mut store).unwrap() {
+            Verdict::Met { grouping, .. } => {
+                met += 1;
+                assert_eq!(lihumbay::evaluate(&sheet, grouping.as_bytes()), Ok(Evaluation::AllMet));
+            }
+            Verdict::Cannot { refutation } => {
+                cannot += 1;
+                assert_eq!(lihumbay::check(&sheet, refutation.as_bytes()), Ok(()));
+            }
+            Verdict::Full { capacity } => panic!("{capacity} records are enough for so small a sheet"),
+        }
+    }
+    assert!(met > 100 && cannot > 100, "{met} met, {cannot} cannot");
+}
+
+#[test]
+fn damaged_bytes_are_refused_or_read() {
+    let mut random = Random(3);
+    for _ in 0..20_000 {
+        let mut bytes = random.sheet().to_bytes();
+        let at = random.below(bytes.len());
+        bytes[at] = random.below(256) as u8;
+        if let Ok(sheet) = Sheet::from_bytes(&bytes) {
+            assert_eq!(sheet.to_bytes().len(), bytes.len());
+        }
+        RecordList::from(bytes).walk().for_each(drop);
+    }
+}
+
+#[test]
+fn damaged_text_is_refused_or_read() {
+    let mut random = Random(4);
+    let pieces = ["same", "apart", "never", "lots", "|", "#", "\n", " ", "1", "3", "0", "99999999", "é", "\t", "-", "+1", "\r\n"];
+    for _ in 0..20_000 {
+        let text: String = (0..random.below(12)).map(|_| [pieces[random.below(pieces.len())], " "].concat()).collect();
+        match text.parse::<Sheet>() {
+            Ok(sheet) => assert_eq!(Sheet::from_bytes(&sheet.to_bytes()), Ok(sheet)),
+            Err(error) => assert!(error.line >= 1 && error.column >= 1 && error.line <= text.lines().count()),
+        }
+    }
+}

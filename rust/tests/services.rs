@@ -1,0 +1,152 @@
+//! The services through the package's types, on the sheets of document 01.
+use lihumbay::{Evaluation, MOST_RECORDS, MOST_TERMS, RECORD_LENGTH, Record, RecordList, SEARCH_STACK, Sheet, SheetBuilder, Term, Verdict};
+
+fn sheet(text: &str) -> Vec<u8> {
+    text.parse::<Sheet>().expect("a test's sheet is well written").to_bytes()
+}
+
+const A: &str = "same 1 2\nsame 2 3\napart 1 3";
+const B: &str = "same 1 2 | apart 2 3\nsame 1 3 | apart 1 2 | same 2 3\napart 1 3";
+const C: &str = "same 1 2 | same 1 3\napart 1 2";
+const D: &str = "apart 1 2 | apart 2 3 | apart 3 1\nsame 1 2 | same 2 3\nsame 1 2 | same 3 1\nsame 2 3 | same 3 1";
+
+/// A search's records as the printing program has them, and how it ends.
+fn searched(text: &str) -> String {
+    let verdict = lihumbay::search(&sheet(text)).expect("a test's sheet is accepted");
+    let (list, end) = match &verdict {
+        Verdict::Met { grouping, records } => (records, format!("met {:?}", grouping.as_bytes())),
+        Verdict::Cannot { refutation } => (refutation, "cannot".to_string()),
+        Verdict::Full { .. } => panic!("{text}: full"),
+    };
+    let records = list.records().map(|read| match read.expect("a search writes records").1 {
+        Record::Split { a, b, next } => format!("split {a} {b} {next}, "),
+        Record::Ground { condition } => format!("ground {condition}, "),
+        _ => String::new(),
+    });
+    format!("{}{end} of {}", records.collect::<String>(), list.count())
+}
+
+#[test]
+fn the_starred_sheets() {
+    assert_eq!(searched(A), "split 1 2 5, split 2 3 4, ground 3, ground 2, ground 1, cannot of 5");
+    assert_eq!(searched(B), "met [1, 2, 3] of 1");
+    assert_eq!(searched(C), "split 1 2 3, ground 2, split 1 3 0, met [1, 2, 1] of 4");
+    assert_eq!(searched(D), "split 1 2 5, split 2 3 4, ground 1, ground 4, split 2 3 7, ground 3, ground 2, cannot of 7");
+    assert_eq!(searched(""), "met [] of 1");
+    assert_eq!(searched("never"), "ground 1, cannot of 1");
+    assert_eq!(searched("same 1 1"), "met [1] of 1");
+    assert_eq!(searched("apart 1 1"), "ground 1, cannot of 1");
+}
+
+#[test]
+fn sheet_c_has_the_bytes_of_document_01() {
+    assert_eq!(sheet(C), include_bytes!("../../samples/c.sheet"));
+}
+
+#[test]
+fn a_full_store_is_a_verdict_of_its_own() {
+    assert_eq!(lihumbay::search_within(&sheet(C), 3), Ok(Verdict::Full { capacity: 3 }));
+    assert_eq!(lihumbay::search_within(&sheet(""), 0), Ok(Verdict::Full { capacity: 0 }));
+    assert!(matches!(lihumbay::search_within(&sheet(C), 4), Ok(Verdict::Met { .. })));
+    // More than the most is taken for the most: nothing of that size is allocated.
+    assert!(matches!(lihumbay::search_within(&sheet(C), usize::MAX), Ok(Verdict::Met { .. })));
+}
+
+#[test]
+fn lent_buffers_are_written_only_where_the_verdict_says() {
+    let (mut grouping, mut store) = ([9; 5], [9; 6 * RECORD_LENGTH]);
+    let met = lihumbay::search_into(&sheet(C), &mut grouping, &mut store).unwrap();
+    assert!(matches!(met, Verdict::Met { grouping, records } if grouping.as_bytes() == [1, 2, 1] && records.count() == 4));
+    assert_eq!((&grouping[3..], &store[4 * RECORD_LENGTH..]), ([9; 2].as_slice(), [9; 2 * RECORD_LENGTH].as_slice()));
+
+    let (mut grouping, mut store) = ([9; 3], [9; 3 * RECORD_LENGTH + 1]);
+    let full = lihumbay::search_into(&sheet(C), &mut grouping, &mut store).unwrap();
+    assert_eq!(full, Verdict::Full { capacity: 3 });
+    assert_eq!(grouping, [9; 3]);
+    assert!(store[..3 * RECORD_LENGTH].iter().all(|&byte| byte == 0) && store[3 * RECORD_LENGTH] == 9);
+}
+
+#[test]
+fn a_lent_grouping_too_short_is_refused() {
+    let refusal = lihumbay::search_into(&sheet(A), &mut [0; 2], &mut [0; 80]).unwrap_err();
+    assert_eq!((refusal.check.number(), refusal.place), (8, 3));
+}
+
+/// A sheet with the longest path, a split for each term: one condition of "same" terms, and one that nothing meets.
+fn deepest() -> Vec<u8> {
+    let mut builder = SheetBuilder::new(128).unwrap();
+    let pairs = (1..=128).flat_map(|a| (a + 1..=128).map(move |b| Term::Same(a, b)));
+    builder.condition(pairs.take(MOST_TERMS)).unwrap().condition([]).unwrap();
+    builder.finish().to_bytes()
+}
+
+#[test]
+fn a_deep_search_runs_from_a_thread_with_a_small_stack() {
+    let verdict = std::thread::Builder::new().stack_size(64 << 10).spawn(|| lihumbay::search(&deepest())).unwrap().join().unwrap().unwrap();
+    let Verdict::Cannot { refutation } = verdict else { panic!("nothing meets the sheet") };
+    assert_eq!(refutation.walk().map(|step| step.unwrap().depth).max(), Some(MOST_TERMS));
+    assert_eq!(lihumbay::check(&deepest(), refutation.as_bytes()), Ok(()));
+}
+
+#[test]
+fn lent_buffers_need_the_stack_that_is_said() {
+    let search = || {
+        lihumbay::search_into(&deepest(), &mut [0; 128], &mut vec![0; 3000 * RECORD_LENGTH])
+            .map(|verdict| matches!(verdict, Verdict::Cannot { .. }))
+    };
+    let ended = std::thread::Builder::new().stack_size(SEARCH_STACK).spawn(search).unwrap().join().unwrap();
+    assert_eq!(ended, Ok(true));
+}
+
+#[test]
+fn refusals_of_a_sheet_have_their_numbers_and_places() {
+    let refused = |bytes: &[u8]| lihumbay::read(bytes).map_err(|refusal| (refusal.check.number(), refusal.place)).unwrap_err();
+    let changed = |at: usize, to: u8| {
+        let mut bytes = sheet(C);
+        bytes[at] = to;
+        bytes
+    };
+    assert_eq!(refused(&[0; 5]), (1, 0));
+    assert_eq!(refused(&changed(0, 129)), (2, 1));
+    assert_eq!(refused(&changed(3, 2)), (2, 2));
+    assert_eq!(refused(&changed(5, 5)), (2, 3));
+    assert_eq!(refused(&sheet(C)[..33]), (3, 0));
+    assert_eq!(refused(&changed(8, 4)), (4, 2));
+    assert_eq!(refused(&changed(10, 3)), (5, 1));
+    assert_eq!(refused(&changed(16, 1)), (6, 1));
+    assert_eq!(refused(&changed(8, 0)), (7, 3));
+}
+
+#[test]
+fn refusals_of_a_list_have_their_numbers_and_places() {
+    let list_of = |records: &[Record]| records.iter().flat_map(|record| record.to_bytes().unwrap()).collect::<Vec<u8>>();
+    let refused = |list: &[u8]| lihumbay::check(&sheet(A), list).map_err(|refusal| (refusal.check.number(), refusal.place));
+    let split = |a, b, next| Record::Split { a, b, next };
+    let ground = |condition| Record::Ground { condition };
+    let right = [split(1, 2, 5), split(2, 3, 4), ground(3), ground(2), ground(1)];
+    assert_eq!(refused(&list_of(&right)), Ok(()));
+    assert_eq!(refused(&[]), Err((10, 0)));
+    assert_eq!(refused(&vec![0; (MOST_RECORDS + 1) * RECORD_LENGTH]), Err((10, 0)));
+    assert_eq!(refused(&list_of(&[split(1, 4, 3)])), Err((11, 1)));
+    assert_eq!(refused(&list_of(&[ground(1)])), Err((12, 1)));
+    assert_eq!(refused(&list_of(&[split(1, 2, 4), right[1], right[2], right[3], right[4]])), Err((13, 1)));
+    assert_eq!(refused(&list_of(&right[..4])), Err((14, 5)));
+    assert_eq!(refused(&list_of(&[split(1, 2, 0); 1025])), Err((15, 1025)));
+}
+
+#[test]
+fn the_evaluator_names_the_lowest_condition() {
+    assert_eq!(lihumbay::evaluate(&sheet(C), &[1, 2, 1, 77]), Ok(Evaluation::AllMet));
+    assert_eq!(lihumbay::evaluate(&sheet(C), &[1, 2, 3]), Ok(Evaluation::Unmet(1)));
+    assert_eq!(lihumbay::evaluate(&sheet("never"), &[]), Ok(Evaluation::Unmet(1)));
+    assert_eq!(lihumbay::evaluate(&sheet(C), &[1, 2]).unwrap_err().place, 3);
+}
+
+#[test]
+fn any_bytes_can_be_walked() {
+    let odd = RecordList::from((0..=255).cycle().take(4001).collect::<Vec<u8>>());
+    assert_eq!(odd.records().count(), 501);
+    assert_eq!(odd.walk().count(), 501);
+    let grounds = RecordList::from([2, 0, 1, 0, 0, 0, 0, 0].repeat(3));
+    assert!(grounds.walk().all(|step| step.is_ok_and(|step| step.depth == 0 && step.above.is_none())));
+}
