@@ -1,0 +1,78 @@
+//! The archive beside the second implementation: four numbers for each service, and every byte of both buffers.
+use crate::case::Case;
+use lihumbay::raw;
+use second::answer::{Answer, Refusal, numbers};
+
+/// The four numbers of each service.
+#[derive(Clone, Debug, PartialEq, Eq)]
+pub struct Answers {
+    pub read: [u32; 4],
+    pub search: [u32; 4],
+    pub evaluate: [u32; 4],
+    pub check: [u32; 4],
+}
+
+/// What a search answers and leaves behind.
+#[derive(Clone, Debug, PartialEq, Eq)]
+pub struct Searched {
+    pub answer: [u32; 4],
+    pub grouping: Vec<u8>,
+    pub store: Vec<u8>,
+}
+
+pub fn plain(answer: raw::Numbers) -> [u32; 4] {
+    [answer.check, answer.first, answer.second, answer.third]
+}
+
+/// The archive's search.
+pub fn searched(case: &Case) -> Searched {
+    let (mut grouping, mut store) = buffers(case);
+    let answer = plain(raw::search(&case.sheet, &mut grouping, &mut store));
+    Searched { answer, grouping, store }
+}
+
+fn searched_by_second(case: &Case) -> Searched {
+    let (mut grouping, mut store) = buffers(case);
+    let answer = numbers(&second::search(&case.sheet, &mut grouping, &mut store));
+    Searched { answer, grouping, store }
+}
+
+fn buffers(case: &Case) -> (Vec<u8>, Vec<u8>) {
+    (vec![case.fill; case.grouping.len()], vec![case.fill; case.store_length])
+}
+
+/// The answers, if both implementations give the same, else what differs.
+pub fn compare(case: &Case) -> Result<Answers, String> {
+    let searched = compare_search(case)?;
+    Ok(Answers {
+        read: equal("reader", raw::read(&case.sheet), second::read(&case.sheet))?,
+        search: searched.answer,
+        evaluate: equal("evaluator", raw::evaluate(&case.sheet, &case.grouping), second::evaluate(&case.sheet, &case.grouping))?,
+        check: equal("checker", raw::check(&case.sheet, &case.list), second::check(&case.sheet, &case.list))?,
+    })
+}
+
+fn compare_search(case: &Case) -> Result<Searched, String> {
+    let (archive, second) = (searched(case), searched_by_second(case));
+    same("search", &archive.answer, &second.answer)?;
+    same_bytes("grouping", &archive.grouping, &second.grouping)?;
+    same_bytes("store", &archive.store, &second.store)?;
+    Ok(archive)
+}
+
+fn equal(service: &str, archive: raw::Numbers, second: Result<Answer, Refusal>) -> Result<[u32; 4], String> {
+    let archive = plain(archive);
+    same(service, &archive, &numbers(&second))?;
+    Ok(archive)
+}
+
+fn same(service: &str, archive: &[u32; 4], second: &[u32; 4]) -> Result<(), String> {
+    if archive == second { Ok(()) } else { Err(format!("{service}: the archive gives {archive:?}, the second implementation {second:?}")) }
+}
+
+fn same_bytes(buffer: &str, archive: &[u8], second: &[u8]) -> Result<(), String> {
+    match archive.iter().zip(second).position(|(one, other)| one != other) {
+        None => Ok(()),
+        Some(at) => Err(format!("{buffer}, byte {at}: {:02x} in the archive's, {:02x} in the second's", archive[at], second[at])),
+    }
+}

@@ -1,0 +1,52 @@
+//! How many inputs of each class there were, and how often each answer was seen.
+use crate::compare::Answers;
+use std::collections::BTreeMap;
+use std::fmt::Write;
+
+#[derive(Default)]
+pub struct Tally {
+    classes: Vec<(&'static str, usize)>,
+    answers: BTreeMap<(&'static str, String), usize>,
+    checks: BTreeMap<u32, usize>,
+}
+
+impl Tally {
+    pub fn class(&mut self, name: &'static str, count: usize) {
+        self.classes.push((name, count));
+    }
+
+    pub fn answers(&mut self, answers: &Answers) {
+        self.answer("reader", &answers.read, "accepted".into());
+        let verdict = if answers.search[1] == 1 { "met" } else { "cannot" };
+        self.answer("search", &answers.search, verdict.into());
+        let evaluated = if answers.evaluate[1] == 0 { "all met" } else { "a condition not met" };
+        self.answer("evaluator", &answers.evaluate, evaluated.into());
+        self.answer("checker", &answers.check, "passes".into());
+    }
+
+    fn answer(&mut self, service: &'static str, numbers: &[u32; 4], accepted: String) {
+        let what = if numbers[0] == 0 { accepted } else { format!("check {:2}", numbers[0]) };
+        *self.answers.entry((service, what)).or_default() += 1;
+        *self.checks.entry(numbers[0]).or_default() += 1;
+    }
+
+    pub fn inputs(&self) -> usize {
+        self.classes.iter().map(|(_, count)| count).sum()
+    }
+
+    /// How often a check refused, over all services.
+    pub fn seen(&self, check: u32) -> usize {
+        self.checks.get(&check).copied().unwrap_or(0)
+    }
+
+    pub fn report(&self) -> String {
+        let mut text = format!("\n{} inputs, each through four services:\n", self.inputs());
+        for (name, count) in &self.classes {
+            writeln!(text, "  {count:8} {name}").expect("a string takes all");
+        }
+        for ((service, what), count) in &self.answers {
+            writeln!(text, "  {count:8} {service}: {what}").expect("a string takes all");
+        }
+        text
+    }
+}
