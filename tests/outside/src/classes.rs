@@ -14,24 +14,24 @@ use second::store::{Record, list_bytes};
 use second::writer::{apart, sheet_bytes};
 
 pub const CLASSES: &[Class] = &[
-    Class { name: "tiny sheets", count: 30_000, make: tiny },
-    Class { name: "small sheets", count: 12_000, make: small },
-    Class { name: "medium sheets", count: 2_500, make: medium },
-    Class { name: "sheets up to the limits", count: 400, make: large },
+    Class { name: "tiny sheets", count: 50_000, make: tiny },
+    Class { name: "small sheets", count: 30_000, make: small },
+    Class { name: "medium sheets", count: 5_000, make: medium },
+    Class { name: "sheets up to the limits", count: 600, make: large },
     Class { name: "wide families, stores around the count", count: 2_000, make: wide_family },
     Class { name: "deep paths", count: 60, make: deep_family },
     Class { name: "stores of any length", count: 4_000, make: any_store },
     Class { name: "the search's grouping, also with a byte changed", count: 6_000, make: own_grouping },
-    Class { name: "sheets with one fault", count: 24_000, make: one_fault },
-    Class { name: "sheets with two faults", count: 10_000, make: two_faults },
+    Class { name: "sheets with one fault", count: 40_000, make: one_fault },
+    Class { name: "sheets with two faults", count: 20_000, make: two_faults },
     Class { name: "large sheets with faults", count: 600, make: large_with_faults },
     Class { name: "random bytes as a sheet", count: 8_000, make: random_bytes },
-    Class { name: "the search's refutation with faults", count: 16_000, make: faulty_refutation },
+    Class { name: "the search's refutation with faults", count: 24_000, make: faulty_refutation },
     Class { name: "refutations changed as trees", count: 8_000, make: changed_tree },
     Class { name: "refutations of other hands", count: 8_000, make: other_hand },
     Class { name: "refutations of other hands with faults", count: 6_000, make: faulty_other_hand },
     Class { name: "lists of any records", count: 6_000, make: any_list },
-    Class { name: "lists around the most splits above", count: 120, make: deep_list },
+    Class { name: "lists around the most splits above", count: 400, make: deep_list },
 ];
 
 fn tiny(random: &mut Random, _: usize) -> Case {

@@ -1,6 +1,6 @@
 //! Runs the classes of input. A failure names class, case and seed, and has the input in hexadecimal.
 use crate::case::Case;
-use crate::compare::compare;
+use crate::compare::{Answers, compare};
 use crate::laws::laws;
 use crate::random::Random;
 use crate::tally::Tally;
@@ -30,11 +30,24 @@ pub fn run(class: &Class, tally: &mut Tally) {
 pub fn run_one(class: &Class, number: usize, tally: &mut Tally) {
     let seed = seed(class.name, number);
     let case = (class.make)(&mut Random::new(seed), number);
-    let answers = compare(&case).and_then(|answers| laws(&case).map(|()| answers));
-    match answers {
+    match compare_and_laws(&case) {
         Ok(answers) => tally.answers(&answers),
         Err(difference) => panic!("class \"{}\", case {number}, seed {seed:#x}: {difference}\n{case}", class.name),
     }
+}
+
+/// A case that no seed made.
+pub fn run_case(case: &Case, tally: &mut Tally) {
+    match compare_and_laws(case) {
+        Ok(answers) => tally.answers(&answers),
+        Err(difference) => panic!("{difference}\n{case}"),
+    }
+}
+
+fn compare_and_laws(case: &Case) -> Result<Answers, String> {
+    let answers = compare(case)?;
+    laws(case)?;
+    Ok(answers)
 }
 
 /// Searches on both sides call themselves up to 1,024 levels deep: more stack than a test's thread has by itself.

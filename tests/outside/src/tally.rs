@@ -7,7 +7,7 @@ use std::fmt::Write;
 pub struct Tally {
     classes: Vec<(&'static str, usize)>,
     answers: BTreeMap<(&'static str, String), usize>,
-    checks: BTreeMap<u32, usize>,
+    checks: BTreeMap<(&'static str, u32), usize>,
 }
 
 impl Tally {
@@ -27,16 +27,16 @@ impl Tally {
     fn answer(&mut self, service: &'static str, numbers: &[u32; 4], accepted: String) {
         let what = if numbers[0] == 0 { accepted } else { format!("check {:2}", numbers[0]) };
         *self.answers.entry((service, what)).or_default() += 1;
-        *self.checks.entry(numbers[0]).or_default() += 1;
+        *self.checks.entry((service, numbers[0])).or_default() += 1;
     }
 
     pub fn inputs(&self) -> usize {
         self.classes.iter().map(|(_, count)| count).sum()
     }
 
-    /// How often a check refused, over all services.
-    pub fn seen(&self, check: u32) -> usize {
-        self.checks.get(&check).copied().unwrap_or(0)
+    /// How often a check refused a service; 0, how often none did.
+    pub fn seen(&self, service: &'static str, check: u32) -> usize {
+        self.checks.get(&(service, check)).copied().unwrap_or(0)
     }
 
     pub fn report(&self) -> String {
