@@ -18,7 +18,12 @@ pub struct Case {
 impl Case {
     /// A sheet with a random grouping of at least n bytes, mostly exactly n, a store around the count of nodes, and a list that is the search's own.
     pub fn of(sheet: Vec<u8>, random: &mut Random) -> Case {
-        let found = probe(&sheet, 300);
+        Case::with_room(sheet, 300, random)
+    }
+
+    /// As `of`; where the search takes more than `room` nodes, the store is around that.
+    pub fn with_room(sheet: Vec<u8>, room: usize, random: &mut Random) -> Case {
+        let found = probe(&sheet, room);
         let lots = usize::from(*sheet.first().unwrap_or(&0));
         let grouping = grouping(lots, random);
         let store_length = store_length(found.count(), random);

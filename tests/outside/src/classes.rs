@@ -18,6 +18,7 @@ pub const CLASSES: &[Class] = &[
     Class { name: "small sheets", count: 30_000, make: small },
     Class { name: "medium sheets", count: 5_000, make: medium },
     Class { name: "sheets up to the limits", count: 600, make: large },
+    Class { name: "long searches", count: 400, make: long_search },
     Class { name: "wide families, stores around the count", count: 2_000, make: wide_family },
     Class { name: "deep paths", count: 60, make: deep_family },
     Class { name: "stores of any length", count: 4_000, make: any_store },
@@ -27,6 +28,7 @@ pub const CLASSES: &[Class] = &[
     Class { name: "large sheets with faults", count: 600, make: large_with_faults },
     Class { name: "random bytes as a sheet", count: 8_000, make: random_bytes },
     Class { name: "the search's refutation with faults", count: 24_000, make: faulty_refutation },
+    Class { name: "long refutations with faults", count: 300, make: faulty_long_refutation },
     Class { name: "refutations changed as trees", count: 8_000, make: changed_tree },
     Class { name: "refutations of other hands", count: 8_000, make: other_hand },
     Class { name: "refutations of other hands with faults", count: 6_000, make: faulty_other_hand },
@@ -48,6 +50,10 @@ fn medium(random: &mut Random, _: usize) -> Case {
 
 fn large(random: &mut Random, _: usize) -> Case {
     Case::of(sheets::large(random), random)
+}
+
+fn long_search(random: &mut Random, _: usize) -> Case {
+    Case::with_room(sheets::dense(random), 4000, random)
 }
 
 fn wide_family(random: &mut Random, _: usize) -> Case {
@@ -157,6 +163,13 @@ fn faulty_refutation(random: &mut Random, _: usize) -> Case {
     let sheet = sheets::cannot(random);
     let list = probe(&sheet, 200).nodes;
     with_faults(sheet, list, random)
+}
+
+/// Where the search was met or took too long, there is no list, and the fault is all of it.
+fn faulty_long_refutation(random: &mut Random, _: usize) -> Case {
+    let sheet = sheets::dense(random);
+    let found = probe(&sheet, 4000);
+    with_faults(sheet, found.nodes, random)
 }
 
 fn changed_tree(random: &mut Random, _: usize) -> Case {

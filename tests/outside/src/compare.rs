@@ -26,9 +26,42 @@ pub fn plain(answer: raw::Numbers) -> [u32; 4] {
 
 /// The archive's search.
 pub fn searched(case: &Case) -> Searched {
-    let (mut grouping, mut store) = buffers(case);
-    let answer = plain(raw::search(&case.sheet, &mut grouping, &mut store));
-    Searched { answer, grouping, store }
+    let (mut grouping, mut store) = (Guarded::new(case.grouping.len(), case.fill), Guarded::new(case.store_length, case.fill));
+    let answer = plain(raw::search(&case.sheet, grouping.inside(), store.inside()));
+    Searched { answer, grouping: grouping.end("grouping"), store: store.end("store") }
+}
+
+/// Bytes before and after a buffer that is lent: an odd number of them, so that the buffer lies at an odd address.
+const GUARD: usize = 17;
+
+/// A buffer inside a larger one, so that a byte written outside it is seen.
+struct Guarded {
+    bytes: Vec<u8>,
+    guard: u8,
+}
+
+impl Guarded {
+    fn new(length: usize, fill: u8) -> Guarded {
+        let mut bytes = vec![fill; length + 2 * GUARD];
+        let guard = !fill;
+        bytes[..GUARD].fill(guard);
+        bytes[GUARD + length..].fill(guard);
+        Guarded { bytes, guard }
+    }
+
+    fn inside(&mut self) -> &mut [u8] {
+        let end = self.bytes.len() - GUARD;
+        &mut self.bytes[GUARD..end]
+    }
+
+    /// The buffer, once its guards were looked at. A damaged one ends the test: memory was overwritten, and no later answer counts.
+    fn end(mut self, name: &str) -> Vec<u8> {
+        let end = self.bytes.len() - GUARD;
+        let outside = self.bytes[..GUARD].iter().chain(&self.bytes[end..]);
+        assert!(outside.copied().all(|byte| byte == self.guard), "a byte outside the {name} was written");
+        self.bytes.truncate(end);
+        self.bytes.split_off(GUARD)
+    }
 }
 
 fn searched_by_second(case: &Case) -> Searched {

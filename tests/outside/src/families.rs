@@ -10,8 +10,8 @@ pub fn wide(widths: &[usize]) -> Vec<Vec<Term>> {
     conditions
 }
 
-/// As `wide`, but the last condition asks that lots 1 and 2 differ, and a first one has the terms "same 1 2" and "same 3 4": everything under the same branch of
-/// 1 2 is visited, then the apart branch is met.
+/// As `wide`, but the last condition asks that lots 1 and 2 differ, and a first one has the terms "same 1 2" and "same 3 4": everything under the same branch
+/// of 1 2 is visited, then the apart branch is met.
 pub fn wide_and_met(widths: &[usize]) -> Vec<Vec<Term>> {
     let mut conditions = vec![vec![same(1, 2), same(3, 4)]];
     conditions.extend(disjoint(widths, 5));

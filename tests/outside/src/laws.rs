@@ -2,6 +2,8 @@
 use crate::case::Case;
 use crate::compare::{Searched, plain, searched};
 use lihumbay::raw;
+use second::limits::NODE_LENGTH;
+use std::hint::black_box;
 
 const PASSES: [u32; 4] = [0, 0, 0, 0];
 /// Up to this many lots, every grouping is tried.
@@ -13,10 +15,12 @@ pub fn laws(case: &Case) -> Result<(), String> {
     let list = case.list.clone();
     let found = searched(case);
     twice(case, &found)?;
+    surrounded(case)?;
     verdict(case, &found)?;
     untouched(case, &found)?;
     brute_force(case, &found)?;
-    if sheet != case.sheet || list != case.list {
+    // Without the black box the compiler may take it for granted that what is lent to be read stays.
+    if sheet != *black_box(&case.sheet) || list != *black_box(&case.list) {
         return Err("an input that is only read was changed".into());
     }
     Ok(())
@@ -33,11 +37,33 @@ fn twice(case: &Case, found: &Searched) -> Result<(), String> {
     Ok(())
 }
 
+/// The same bytes at an odd address, among others that are not lent, give the same answers.
+fn surrounded(case: &Case) -> Result<(), String> {
+    for around in [0x00, 0xFF, 0x01] {
+        let (sheet, list) = (among(&case.sheet, around), among(&case.list, around));
+        let (sheet, list) = (&sheet[AROUND..AROUND + case.sheet.len()], &list[AROUND..AROUND + case.list.len()]);
+        let evaluates_as_before = raw::evaluate(sheet, &case.grouping) == raw::evaluate(&case.sheet, &case.grouping);
+        if raw::read(sheet) != raw::read(&case.sheet)
+            || !evaluates_as_before
+            || raw::check(sheet, list) != raw::check(&case.sheet, &case.list)
+        {
+            return Err("an answer depends on bytes that were not lent".into());
+        }
+    }
+    Ok(())
+}
+
+const AROUND: usize = 5;
+
+fn among(bytes: &[u8], around: u8) -> Vec<u8> {
+    [&[around; AROUND], bytes, &[around; 16]].concat()
+}
+
 /// Met: the grouping meets the sheet. Cannot: the records are a refutation.
 fn verdict(case: &Case, found: &Searched) -> Result<(), String> {
     match found.answer {
         [0, 1, _, _] if plain(raw::evaluate(&case.sheet, &found.grouping)) != PASSES => Err("the grouping does not meet the sheet".into()),
-        [0, 2, count, _] if plain(raw::check(&case.sheet, &found.store[..8 * count as usize])) != PASSES => {
+        [0, 2, count, _] if plain(raw::check(&case.sheet, &found.store[..NODE_LENGTH * count as usize])) != PASSES => {
             Err("the records of a sheet that cannot be met are no refutation".into())
         }
         _ => Ok(()),
@@ -47,9 +73,9 @@ fn verdict(case: &Case, found: &Searched) -> Result<(), String> {
 /// Bytes that are not to be written have what they had.
 fn untouched(case: &Case, found: &Searched) -> Result<(), String> {
     let (grouping_written, store_written) = match found.answer {
-        [0, 1, count, _] => (usize::from(case.sheet[0]), 8 * count as usize),
-        [0, 2, count, _] => (0, 8 * count as usize),
-        [9, room, _, _] => (0, 8 * room as usize),
+        [0, 1, count, _] => (usize::from(case.sheet[0]), NODE_LENGTH * count as usize),
+        [0, 2, count, _] => (0, NODE_LENGTH * count as usize),
+        [9, room, _, _] => (0, NODE_LENGTH * room as usize),
         _ => (0, 0),
     };
     let is_filled = |bytes: &[u8]| bytes.iter().all(|&byte| byte == case.fill);

@@ -3,8 +3,8 @@ use crate::random::Random;
 use crate::tree::{ground, split};
 use second::store::Record;
 
-/// A list whose last path has one split for each entry: `true`, the path goes on in the split's same branch and its apart branch is a ground; `false`, the other
-/// way round. Every ground names condition 1, every split a random pair.
+/// A list whose last path has one split for each entry: `true`, the path goes on in the split's same branch and its apart branch is a ground; `false`, the
+/// other way round. Every ground names condition 1, every split a random pair.
 pub fn spine(lots: usize, directions: &[bool], random: &mut Random) -> Vec<Record> {
     let mut records = Vec::new();
     let mut waiting = Vec::new();

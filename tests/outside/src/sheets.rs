@@ -69,6 +69,23 @@ pub fn medium(random: &mut Random) -> Vec<u8> {
     write(&shape, random)
 }
 
+/// Many short conditions on few lots: searches of hundreds and thousands of nodes.
+pub fn dense(random: &mut Random) -> Vec<u8> {
+    let lots = random.range(9, 16);
+    let shape = Shape {
+        lots,
+        conditions: random.range(2 * lots, 5 * lots),
+        terms: 300,
+        longest: random.range(3, 4),
+        same: random.range(55, 75),
+        twice: 0,
+        repeated: 3,
+        empty: 0,
+        all: false,
+    };
+    write(&shape, random)
+}
+
 /// Up to the limits, and often exactly at them.
 pub fn large(random: &mut Random) -> Vec<u8> {
     let shape = Shape {

@@ -1,5 +1,5 @@
-//! The archive beside the second implementation, on all classes of input. `OUTSIDE_CLASS` and `OUTSIDE_CASE` repeat one case: the class's name and the case's number, as
-//! a failure prints them.
+//! The archive beside the second implementation, on all classes of input. `OUTSIDE_CLASS` and `OUTSIDE_CASE` repeat one case: the class's name and the case's
+//! number, as a failure prints them.
 use outside::classes::CLASSES;
 use outside::run::{run, run_one, say, with_stack};
 use outside::tally::Tally;

@@ -1,4 +1,5 @@
 //! The bytes of a sheet, for tests: records in the order of the conditions, or in any order.
+use crate::limits::{APART, SAME, TERM_LENGTH};
 use crate::sheet::{Sign, Term};
 
 pub fn same(a: usize, b: usize) -> Term {
@@ -19,7 +20,7 @@ pub fn sheet_bytes(lots: usize, conditions: &[Vec<Term>]) -> Vec<u8> {
 /// The sheet whose i-th term, in the order of the conditions and their terms, has the record number `order[i - 1]`.
 pub fn sheet_bytes_in(lots: usize, conditions: &[Vec<Term>], order: &[usize]) -> Vec<u8> {
     let mut heads = Vec::new();
-    let mut records = vec![[0u8; 8]; order.len()];
+    let mut records = vec![[0u8; TERM_LENGTH]; order.len()];
     let mut passed = 0;
     for condition in conditions {
         heads.push(if condition.is_empty() { 0 } else { order[passed] });
@@ -37,10 +38,10 @@ pub fn sheet_bytes_in(lots: usize, conditions: &[Vec<Term>], order: &[usize]) ->
     bytes
 }
 
-fn record(term: &Term, next: usize) -> [u8; 8] {
+fn record(term: &Term, next: usize) -> [u8; TERM_LENGTH] {
     let sign = match term.sign {
-        Sign::Same => 1,
-        Sign::Apart => 2,
+        Sign::Same => SAME,
+        Sign::Apart => APART,
     };
     let ([a, a_high], [b, b_high], [next, next_high]) = (two_bytes(term.a), two_bytes(term.b), two_bytes(next));
     [sign, 0, a, a_high, b, b_high, next, next_high]
