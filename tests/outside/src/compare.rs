@@ -18,6 +18,8 @@ pub struct Searched {
     pub answer: [u32; 4],
     pub grouping: Vec<u8>,
     pub store: Vec<u8>,
+    /// No byte next to a buffer was written.
+    pub guards: bool,
 }
 
 pub fn plain(answer: raw::Numbers) -> [u32; 4] {
@@ -28,7 +30,8 @@ pub fn plain(answer: raw::Numbers) -> [u32; 4] {
 pub fn searched(case: &Case) -> Searched {
     let (mut grouping, mut store) = (Guarded::new(case.grouping.len(), case.fill), Guarded::new(case.store_length, case.fill));
     let answer = plain(raw::search(&case.sheet, grouping.inside(), store.inside()));
-    Searched { answer, grouping: grouping.end("grouping"), store: store.end("store") }
+    let guards = grouping.is_intact() && store.is_intact();
+    Searched { answer, grouping: grouping.inside().to_vec(), store: store.inside().to_vec(), guards }
 }
 
 /// Bytes before and after a buffer that is lent: an odd number of them, so that the buffer lies at an odd address.
@@ -54,20 +57,16 @@ impl Guarded {
         &mut self.bytes[GUARD..end]
     }
 
-    /// The buffer, once its guards were looked at. A damaged one ends the test: memory was overwritten, and no later answer counts.
-    fn end(mut self, name: &str) -> Vec<u8> {
+    fn is_intact(&self) -> bool {
         let end = self.bytes.len() - GUARD;
-        let outside = self.bytes[..GUARD].iter().chain(&self.bytes[end..]);
-        assert!(outside.copied().all(|byte| byte == self.guard), "a byte outside the {name} was written");
-        self.bytes.truncate(end);
-        self.bytes.split_off(GUARD)
+        self.bytes[..GUARD].iter().chain(&self.bytes[end..]).all(|&byte| byte == self.guard)
     }
 }
 
 fn searched_by_second(case: &Case) -> Searched {
     let (mut grouping, mut store) = buffers(case);
     let answer = numbers(&second::search(&case.sheet, &mut grouping, &mut store));
-    Searched { answer, grouping, store }
+    Searched { answer, grouping, store, guards: true }
 }
 
 fn buffers(case: &Case) -> (Vec<u8>, Vec<u8>) {
@@ -87,6 +86,9 @@ pub fn compare(case: &Case) -> Result<Answers, String> {
 
 fn compare_search(case: &Case) -> Result<Searched, String> {
     let (archive, second) = (searched(case), searched_by_second(case));
+    if !archive.guards {
+        return Err("search: a byte next to a buffer was written".into());
+    }
     same("search", &archive.answer, &second.answer)?;
     same_bytes("grouping", &archive.grouping, &second.grouping)?;
     same_bytes("store", &archive.store, &second.store)?;
