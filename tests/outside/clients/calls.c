@@ -30,8 +30,8 @@ static const uint8_t nodes_a[] = {
 
 static int failed = 0;
 
-static void expect(const char *what, int holds) {
-    if (!holds) {
+static void expect(const char *what, int agrees) {
+    if (!agrees) {
         printf("FAILED %s\n", what);
         failed = 1;
     }
@@ -124,6 +124,6 @@ int main(void) {
     search_cannot();
     evaluator();
     checker();
-    puts(failed ? "calls: FAILED" : "calls: ok");
+    puts(failed ? "calls from C: FAILED" : "calls from C: ok");
     return failed;
 }

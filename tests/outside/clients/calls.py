@@ -1,0 +1,67 @@
+"""Calls the four services from Python, on document 01's sheets A and C. Its argument is a shared library made from the archive."""
+import ctypes
+import sys
+
+
+class Numbers(ctypes.Structure):
+    _fields_ = [(name, ctypes.c_uint32) for name in ("check", "first", "second", "third")]
+
+    def all(self):
+        return (self.check, self.first, self.second, self.third)
+
+
+def service(library, name, buffers):
+    function = getattr(library, name)
+    function.restype = Numbers
+    function.argtypes = [ctypes.c_void_p, ctypes.c_size_t] * buffers
+
+    def call(*arguments):
+        # A bytearray is lent as it is, so that what the service writes is seen; bytes are copied.
+        lent = [(ctypes.c_uint8 * max(1, len(a))).from_buffer(a) if isinstance(a, bytearray) else ctypes.create_string_buffer(a, len(a) + 1) for a in arguments]
+        flat = [part for view, a in zip(lent, arguments) for part in (ctypes.addressof(view), len(a))]
+        return function(*flat).all()
+
+    return call
+
+
+def sheet_c(read, search, evaluate):
+    sheet = bytes.fromhex("030002000300 01000300 0100010002000200 0100010003000000 0200010002000000")
+    grouping, store = bytearray(b"\xaa" * 5), bytearray(b"\xaa" * 41)
+    assert read(sheet) == (0, 3, 2, 3)
+    assert search(sheet, grouping, store) == (0, 1, 4, 0)
+    assert grouping == bytes([1, 2, 1, 0xAA, 0xAA])
+    assert store == bytes.fromhex("0100010002000300 0200020000000000 0100010003000000 0300000000000000") + b"\xaa" * 9
+    assert evaluate(sheet, bytes(grouping)) == (0, 0, 0, 0)
+    assert evaluate(sheet, bytes([7, 8, 9])) == (0, 1, 0, 0)
+    assert evaluate(sheet, bytes([7, 7])) == (8, 3, 0, 0)
+
+
+def store_full(search):
+    sheet = bytes.fromhex("030002000300 01000300 0100010002000200 0100010003000000 0200010002000000")
+    grouping, store = bytearray(b"\xaa" * 3), bytearray(b"\xaa" * 31)
+    assert search(sheet, grouping, store) == (9, 3, 0, 0)
+    assert grouping == b"\xaa" * 3 and store == bytes(24) + b"\xaa" * 7
+
+
+def sheet_a(search, check):
+    sheet = bytes.fromhex("030003000300 010002000300 0100010002000000 0100020003000000 0200010003000000")
+    grouping, store = bytearray(3), bytearray(40)
+    assert search(sheet, grouping, store) == (0, 2, 5, 0)
+    assert check(sheet, bytes(store)) == (0, 0, 0, 0)
+    assert check(sheet, bytes(store[:32])) == (14, 5, 0, 0)
+    assert check(sheet[:5], bytes(store)) == (1, 0, 0, 0)
+    store[6] = 4
+    assert check(sheet, bytes(store)) == (13, 1, 0, 0)
+
+
+def main():
+    library = ctypes.CDLL(sys.argv[1])
+    read, evaluate = service(library, "lihumbay_read", 1), service(library, "lihumbay_evaluate", 2)
+    search, check = service(library, "lihumbay_search", 3), service(library, "lihumbay_check", 2)
+    sheet_c(read, search, evaluate)
+    store_full(search)
+    sheet_a(search, check)
+    print("calls from Python: ok")
+
+
+main()

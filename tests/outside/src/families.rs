@@ -1,0 +1,64 @@
+//! Sheets whose count of nodes or depth of path is known by how they are made.
+use crate::random::Random;
+use second::sheet::Term;
+use second::writer::{apart, same, sheet_bytes};
+
+/// Conditions of `widths[i]` "same" terms, every term on two lots of its own, and a last one that nobody meets: every way to make them true is visited.
+pub fn wide(widths: &[usize]) -> Vec<Vec<Term>> {
+    let mut conditions = disjoint(widths, 1);
+    conditions.push(vec![apart(1, 1)]);
+    conditions
+}
+
+/// As `wide`, but the last condition asks that lots 1 and 2 differ, and a first one has the terms "same 1 2" and "same 3 4": everything under the same branch
+/// of 1 2 is visited, then the apart branch is met.
+pub fn wide_and_met(widths: &[usize]) -> Vec<Vec<Term>> {
+    let mut conditions = vec![vec![same(1, 2), same(3, 4)]];
+    conditions.extend(disjoint(widths, 5));
+    conditions.push(vec![apart(1, 2)]);
+    conditions
+}
+
+/// Terms on the lots from `lot` on, two new ones each.
+fn disjoint(widths: &[usize], mut lot: usize) -> Vec<Vec<Term>> {
+    let mut next = || {
+        lot += 2;
+        same(lot - 2, lot - 1)
+    };
+    widths.iter().map(|&width| (0..width).map(|_| next()).collect()).collect()
+}
+
+/// The lots that the terms name.
+pub fn lots(conditions: &[Vec<Term>]) -> usize {
+    conditions.iter().flatten().map(|term| term.a.max(term.b)).max().unwrap_or(0)
+}
+
+pub fn bytes(conditions: &[Vec<Term>]) -> Vec<u8> {
+    sheet_bytes(lots(conditions), conditions)
+}
+
+/// The nodes of `wide`: under each of w splits the rest, and a ground where all w are apart.
+pub fn wide_count(widths: &[usize]) -> usize {
+    widths.iter().rev().fold(1, |rest, width| width * (1 + rest) + 1)
+}
+
+/// The nodes of `wide_and_met`: the split on 1 2, everything under its same branch, the split on 3 4, one split for each condition, and the met node.
+pub fn wide_and_met_count(widths: &[usize]) -> usize {
+    1 + wide_count(widths) + 1 + widths.len() + 1
+}
+
+/// One condition of `width` "same" terms on different pairs, and one that nobody meets: the path with all of them apart has `width` splits.
+pub fn deep(lots: usize, width: usize, random: &mut Random) -> Vec<Vec<Term>> {
+    let mut pairs: Vec<Term> = (1..=lots).flat_map(|a| (1..a).map(move |b| same(a, b))).collect();
+    random.shuffle(&mut pairs);
+    pairs.truncate(width);
+    let nobody_meets = if width < 1024 && random.chance(50) { vec![apart(1, 1)] } else { vec![] };
+    vec![pairs, nobody_meets]
+}
+
+/// Each lot the same as the one before, and the first apart from the last: a path with all of them joined.
+pub fn joined(lots: usize) -> Vec<Vec<Term>> {
+    let mut conditions: Vec<Vec<Term>> = (1..lots).map(|lot| vec![same(lot, lot + 1)]).collect();
+    conditions.push(vec![apart(1, lots)]);
+    conditions
+}

@@ -1,0 +1,128 @@
+//! Laws of the archive that need no second implementation.
+use crate::case::Case;
+use crate::compare::{Searched, plain, searched};
+use lihumbay::raw;
+use second::limits::NODE_LENGTH;
+use std::hint::black_box;
+
+const PASSES: [u32; 4] = [0, 0, 0, 0];
+/// Up to this many lots, every grouping is tried.
+const FEW_LOTS: usize = 5;
+
+/// Every law, on the answers and buffers of one case.
+pub fn laws(case: &Case) -> Result<(), String> {
+    let sheet = case.sheet.clone();
+    let list = case.list.clone();
+    let found = searched(case);
+    twice(case, &found)?;
+    surrounded(case)?;
+    verdict(case, &found)?;
+    untouched(case, &found)?;
+    brute_force(case, &found)?;
+    // Without the black box the compiler may take it for granted that what is lent to be read stays.
+    if sheet != *black_box(&case.sheet) || list != *black_box(&case.list) {
+        return Err("an input that is only read was changed".into());
+    }
+    Ok(())
+}
+
+/// The same call gives the same.
+fn twice(case: &Case, found: &Searched) -> Result<(), String> {
+    if searched(case) != *found {
+        return Err("the same search gave two answers".into());
+    }
+    if raw::check(&case.sheet, &case.list) != raw::check(&case.sheet, &case.list) {
+        return Err("the same check gave two answers".into());
+    }
+    Ok(())
+}
+
+/// The same bytes at an odd address, among others that are not lent, give the same answers.
+fn surrounded(case: &Case) -> Result<(), String> {
+    for around in [0x00, 0xFF, 0x01] {
+        let (sheet, list) = (among(&case.sheet, around), among(&case.list, around));
+        let (sheet, list) = (&sheet[AROUND..AROUND + case.sheet.len()], &list[AROUND..AROUND + case.list.len()]);
+        let evaluates_as_before = raw::evaluate(sheet, &case.grouping) == raw::evaluate(&case.sheet, &case.grouping);
+        if raw::read(sheet) != raw::read(&case.sheet)
+            || !evaluates_as_before
+            || raw::check(sheet, list) != raw::check(&case.sheet, &case.list)
+        {
+            return Err("an answer depends on bytes that were not lent".into());
+        }
+    }
+    Ok(())
+}
+
+const AROUND: usize = 5;
+
+fn among(bytes: &[u8], around: u8) -> Vec<u8> {
+    [&[around; AROUND], bytes, &[around; 16]].concat()
+}
+
+/// Met: the grouping meets the sheet. Cannot: the records are a refutation.
+fn verdict(case: &Case, found: &Searched) -> Result<(), String> {
+    match found.answer {
+        [0, 1, _, _] if plain(raw::evaluate(&case.sheet, &found.grouping)) != PASSES => Err("the grouping does not meet the sheet".into()),
+        [0, 2, count, _] if plain(raw::check(&case.sheet, &found.store[..NODE_LENGTH * count as usize])) != PASSES => {
+            Err("the records of a sheet that cannot be met are no refutation".into())
+        }
+        _ => Ok(()),
+    }
+}
+
+/// Bytes that are not to be written have what they had.
+fn untouched(case: &Case, found: &Searched) -> Result<(), String> {
+    let (grouping_written, store_written) = match found.answer {
+        [0, 1, count, _] => (usize::from(case.sheet[0]), NODE_LENGTH * count as usize),
+        [0, 2, count, _] => (0, NODE_LENGTH * count as usize),
+        [9, room, _, _] => (0, NODE_LENGTH * room as usize),
+        _ => (0, 0),
+    };
+    let is_filled = |bytes: &[u8]| bytes.iter().all(|&byte| byte == case.fill);
+    if !is_filled(&found.grouping[grouping_written..]) || !is_filled(&found.store[store_written..]) {
+        return Err("a byte past the written part was changed".into());
+    }
+    if found.answer[0] == 9 && found.store[..store_written].iter().any(|&byte| byte != 0) {
+        return Err("a full store's records are not all zero".into());
+    }
+    Ok(())
+}
+
+/// With few lots: some grouping meets the sheet exactly where the search says so.
+fn brute_force(case: &Case, found: &Searched) -> Result<(), String> {
+    let [0, verdict, _, _] = found.answer else { return Ok(()) };
+    let lots = usize::from(case.sheet[0]);
+    if lots > FEW_LOTS {
+        return Ok(());
+    }
+    let some = groupings(lots).iter().any(|grouping| plain(raw::evaluate(&case.sheet, grouping)) == PASSES);
+    if some == (verdict == 1) { Ok(()) } else { Err(format!("the search says {verdict}, but some grouping meets the sheet: {some}")) }
+}
+
+/// Every way to split the lots into classes, each class known by its smallest lot.
+pub fn groupings(lots: usize) -> Vec<Vec<u8>> {
+    let mut all = vec![vec![]];
+    for lot in 1..=lots as u8 {
+        all = all.iter().flat_map(|grouping| one_lot_more(grouping, lot)).collect();
+    }
+    all
+}
+
+fn one_lot_more(grouping: &[u8], lot: u8) -> Vec<Vec<u8>> {
+    let mut choices: Vec<u8> = grouping.to_vec();
+    choices.sort_unstable();
+    choices.dedup();
+    choices.push(lot);
+    choices.into_iter().map(|choice| [grouping, &[choice]].concat()).collect()
+}
+
+#[cfg(test)]
+mod tests {
+    use super::groupings;
+
+    #[test]
+    fn there_are_as_many_groupings_as_partitions() {
+        let counts: Vec<usize> = (0..=5).map(|lots| groupings(lots).len()).collect();
+        assert_eq!(counts, [1, 1, 2, 5, 15, 52]);
+    }
+}

@@ -1,0 +1,160 @@
+//! Valid sheets of all sizes.
+use crate::case::probe;
+use crate::random::Random;
+use second::limits::{MOST_CONDITIONS, MOST_LOTS, MOST_TERMS};
+use second::sheet::Term;
+use second::writer::{apart, same, sheet_bytes_in};
+
+/// What random conditions look like.
+pub struct Shape {
+    pub lots: usize,
+    pub conditions: usize,
+    /// At most this many terms in all, and in one condition.
+    pub terms: usize,
+    pub longest: usize,
+    /// Percentages: "same" terms, a lot twice in a term, a term that stood before, conditions with no term.
+    pub same: usize,
+    pub twice: usize,
+    pub repeated: usize,
+    pub empty: usize,
+    /// The last condition has all terms that are left, so that k is exactly `terms`.
+    pub all: bool,
+}
+
+/// Sheets with up to 4 lots, where every answer is common.
+pub fn tiny(random: &mut Random) -> Vec<u8> {
+    let shape = Shape {
+        lots: random.below(5),
+        conditions: random.below(6),
+        terms: 12,
+        longest: 3,
+        same: random.range(20, 100),
+        twice: 10,
+        repeated: 10,
+        empty: if random.chance(20) { 20 } else { 0 },
+        all: false,
+    };
+    write(&shape, random)
+}
+
+pub fn small(random: &mut Random) -> Vec<u8> {
+    let lots = random.range(3, 8);
+    let shape = Shape {
+        lots,
+        conditions: random.range(2, 4 * lots),
+        terms: 60,
+        longest: random.range(1, 4),
+        same: random.range(30, 90),
+        twice: random.pick(&[0, 0, 5]),
+        repeated: 10,
+        empty: 0,
+        all: false,
+    };
+    write(&shape, random)
+}
+
+pub fn medium(random: &mut Random) -> Vec<u8> {
+    let lots = random.range(8, 40);
+    let shape = Shape {
+        lots,
+        conditions: random.range(5, 80),
+        terms: 300,
+        longest: random.range(2, 8),
+        same: random.range(40, 100),
+        twice: random.below(4),
+        repeated: 5,
+        empty: random.pick(&[0, 0, 0, 1]),
+        all: false,
+    };
+    write(&shape, random)
+}
+
+/// Many short conditions on few lots: searches of hundreds and thousands of nodes.
+pub fn dense(random: &mut Random) -> Vec<u8> {
+    let lots = random.range(9, 16);
+    let shape = Shape {
+        lots,
+        conditions: random.range(2 * lots, 5 * lots),
+        terms: 300,
+        longest: random.range(3, 4),
+        same: random.range(55, 75),
+        twice: 0,
+        repeated: 3,
+        empty: 0,
+        all: false,
+    };
+    write(&shape, random)
+}
+
+/// Up to the limits, and often exactly at them.
+pub fn large(random: &mut Random) -> Vec<u8> {
+    let shape = Shape {
+        lots: random.pick(&[MOST_LOTS, MOST_LOTS, 127, 100, 2]),
+        conditions: random.pick(&[MOST_CONDITIONS, MOST_CONDITIONS, 255, 120, 10]),
+        terms: random.pick(&[MOST_TERMS, MOST_TERMS, 1023, 600]),
+        longest: random.pick(&[4, 5, 40, MOST_TERMS]),
+        same: random.pick(&[50, 70, 90, 100]),
+        twice: random.pick(&[0, 0, 3]),
+        repeated: random.pick(&[0, 5]),
+        empty: random.pick(&[0, 0, 0, 1]),
+        all: random.chance(60),
+    };
+    write(&shape, random)
+}
+
+/// A sheet that cannot be met, whose refutation has 3 to 120 records.
+pub fn cannot(random: &mut Random) -> Vec<u8> {
+    loop {
+        let sheet = small(random);
+        let found = probe(&sheet, 120);
+        if found.cannot() && found.count() >= 3 {
+            return sheet;
+        }
+    }
+}
+
+pub fn write(shape: &Shape, random: &mut Random) -> Vec<u8> {
+    let conditions = conditions(shape, random);
+    write_in_some_order(shape.lots, &conditions, random)
+}
+
+/// Term records in the order of the conditions, or in any order.
+pub fn write_in_some_order(lots: usize, conditions: &[Vec<Term>], random: &mut Random) -> Vec<u8> {
+    let mut order: Vec<usize> = (1..=conditions.iter().map(Vec::len).sum()).collect();
+    if random.chance(60) {
+        random.shuffle(&mut order);
+    }
+    sheet_bytes_in(lots, conditions, &order)
+}
+
+fn conditions(shape: &Shape, random: &mut Random) -> Vec<Vec<Term>> {
+    let mut before: Vec<Term> = Vec::new();
+    let mut conditions = Vec::new();
+    for number in 1..=shape.conditions {
+        let left = shape.terms - before.len();
+        if left == 0 && shape.empty == 0 {
+            break;
+        }
+        let length = match () {
+            _ if shape.lots == 0 || left == 0 || random.chance(shape.empty) => 0,
+            _ if shape.all && number == shape.conditions => left,
+            _ => random.range(1, shape.longest.min(left)),
+        };
+        let condition: Vec<Term> = (0..length).map(|_| term(shape, &before, random)).collect();
+        before.extend(&condition);
+        conditions.push(condition);
+    }
+    conditions
+}
+
+fn term(shape: &Shape, before: &[Term], random: &mut Random) -> Term {
+    if !before.is_empty() && random.chance(shape.repeated) {
+        return random.pick(before);
+    }
+    let a = random.range(1, shape.lots);
+    let mut b = random.range(1, shape.lots);
+    if a == b && shape.lots > 1 && !random.chance(shape.twice) {
+        b = a % shape.lots + 1;
+    }
+    if random.chance(shape.same) { same(a, b) } else { apart(a, b) }
+}

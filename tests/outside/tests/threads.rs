@@ -1,0 +1,32 @@
+//! Two threads in the services at once: a call touches only what it is lent.
+use outside::case::Case;
+use outside::compare::{Searched, plain, searched};
+use outside::random::Random;
+use outside::sheets;
+use std::sync::Barrier;
+use std::thread;
+
+const CASES: usize = 400;
+const ROUNDS: usize = 5;
+
+fn all(cases: &[Case]) -> Vec<(Searched, [u32; 4])> {
+    cases.iter().map(|case| (searched(case), plain(lihumbay::raw::check(&case.sheet, &case.list)))).collect()
+}
+
+#[test]
+fn two_threads_at_once_answer_as_one() {
+    let mut random = Random::new(21);
+    let cases: Vec<Case> = (0..CASES).map(|_| sheets::medium(&mut random)).map(|sheet| Case::of(sheet, &mut Random::new(22))).collect();
+    let expected = all(&cases);
+    let start = Barrier::new(2);
+    let work = || {
+        start.wait();
+        (0..ROUNDS).for_each(|_| assert!(all(&cases) == expected, "an answer changed while another thread was searching"));
+    };
+    thread::scope(|scope| {
+        let worker = || thread::Builder::new().stack_size(16 << 20).spawn_scoped(scope, work).expect("a thread can be started");
+        let (one, other) = (worker(), worker());
+        one.join().expect("the first thread");
+        other.join().expect("the second thread");
+    });
+}

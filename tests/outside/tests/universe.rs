@@ -1,0 +1,137 @@
+//! Very small universes, whole: all sheets with few lots, conditions and records whose fields lie in a small range, and all short lists.
+use outside::case::{Case, probe};
+use outside::run::{run_case, say, with_stack};
+use outside::tally::Tally;
+use outside::tree::{ground, split};
+use second::sheet::Term;
+use second::store::{Record, list_bytes};
+use second::writer::{apart, same, sheet_bytes};
+
+/// All lists of `length` values out of `values`.
+fn each<T: Clone>(values: &[T], length: usize, visit: &mut impl FnMut(&[T])) {
+    fn extend<T: Clone>(values: &[T], length: usize, chosen: &mut Vec<T>, visit: &mut impl FnMut(&[T])) {
+        if chosen.len() == length {
+            return visit(chosen);
+        }
+        for value in values {
+            chosen.push(value.clone());
+            extend(values, length, chosen, visit);
+            chosen.pop();
+        }
+    }
+    extend(values, length, &mut Vec::new(), visit);
+}
+
+/// Term records with each field in its range, both ends included.
+fn records(signs: (u8, u8), most_spare: u8, a: (u8, u8), b: (u8, u8), most_next: u8) -> Vec<Vec<u8>> {
+    let mut all = Vec::new();
+    for sign in signs.0..=signs.1 {
+        for spare in 0..=most_spare {
+            for a in a.0..=a.1 {
+                for b in b.0..=b.1 {
+                    all.extend((0..=most_next).map(|next| vec![sign, spare, a, 0, b, 0, next, 0]));
+                }
+            }
+        }
+    }
+    all
+}
+
+/// The search's own list and exactly its room; one byte of room less where the count is even, so that 9 is seen too.
+fn case(sheet: Vec<u8>) -> Case {
+    let found = probe(&sheet, 64);
+    let short = usize::from(found.count().is_multiple_of(2));
+    Case {
+        grouping: found.grouping[..2.max(usize::from(sheet[0]))].to_vec(),
+        store_length: 8 * found.count() - short,
+        list: found.nodes,
+        fill: 0x55,
+        sheet,
+    }
+}
+
+fn all_sheets(lots: u8, conditions: u8, terms: usize, records: &[Vec<u8>], tally: &mut Tally) -> usize {
+    let heads: Vec<u8> = (0..=terms as u8 + 1).collect();
+    let mut count = 0;
+    each(&heads, usize::from(conditions), &mut |heads| {
+        each(records, terms, &mut |records| {
+            let mut sheet = vec![lots, 0, conditions, 0, terms as u8, 0];
+            sheet.extend(heads.iter().flat_map(|&head| [head, 0]));
+            sheet.extend(records.iter().flatten());
+            run_case(&case(sheet), tally);
+            count += 1;
+        });
+    });
+    count
+}
+
+#[test]
+fn all_small_sheets_byte_by_byte() {
+    with_stack(|| {
+        let mut tally = Tally::default();
+        let mut count = 0;
+        for lots in 0..=2 {
+            for conditions in 0..=2 {
+                count += all_sheets(lots, conditions, 0, &[], &mut tally);
+                count += all_sheets(lots, conditions, 1, &records((0, 3), 1, (0, lots + 1), (0, lots + 1), 2), &mut tally);
+                count += all_sheets(lots, conditions, 2, &records((1, 3), 0, (0, lots), (1, lots.max(1)), 3), &mut tally);
+            }
+        }
+        say(&format!("{count} sheets of up to 2 lots, conditions and records, byte by byte"));
+        (4..=7).for_each(|check| assert!(tally.seen("reader", check) > 100, "check {check}"));
+    });
+}
+
+/// All conditions of up to two of these terms.
+fn conditions_of(terms: &[Term]) -> Vec<Vec<Term>> {
+    let mut all = Vec::new();
+    (0..=2).for_each(|length| each(terms, length, &mut |condition| all.push(condition.to_vec())));
+    all
+}
+
+#[test]
+fn all_small_conditions() {
+    with_stack(|| {
+        let mut tally = Tally::default();
+        let mut count = 0;
+        let mut run = |conditions: &[Vec<Term>]| {
+            run_case(&case(sheet_bytes(3, conditions)), &mut tally);
+            count += 1;
+        };
+        let pairs = [(1, 2), (1, 3), (2, 3)];
+        let three: Vec<Term> = pairs.iter().flat_map(|&(a, b)| [same(a, b), apart(a, b)]).collect();
+        each(&conditions_of(&three), 3, &mut run);
+        let more = pairs.iter().chain(&[(1, 1), (3, 3), (3, 2)]);
+        let twelve: Vec<Term> = more.flat_map(|&(a, b)| [same(a, b), apart(a, b)]).collect();
+        each(&conditions_of(&twelve), 2, &mut run);
+        say(&format!("{count} sheets of 3 lots, all conditions of up to two terms"));
+        assert!(tally.seen("search", 0) > 1000 && tally.seen("search", 9) > 1000);
+    });
+}
+
+#[test]
+fn all_short_lists() {
+    with_stack(|| {
+        let mut tally = Tally::default();
+        let mut count = 0;
+        let sheet = sheet_bytes(2, &[vec![same(1, 2)], vec![apart(1, 2)]]);
+        let mut run = |records: &[Record]| {
+            let list = list_bytes(records);
+            run_case(&Case { sheet: sheet.clone(), grouping: vec![1, 1], store_length: 24, list, fill: 1 }, &mut tally);
+            count += 1;
+        };
+        let odd = [Record { kind: 3, ..ground(0) }, Record { spare: 1, ..ground(1) }, ground(3), split(1, 3, 3)];
+        let mut values: Vec<Record> = vec![ground(1), ground(2)];
+        for next in [0, 2, 3, 4] {
+            values.extend([split(1, 2, next), split(2, 1, next), split(1, 1, next)]);
+        }
+        let with_odd = [values.as_slice(), &odd].concat();
+        (0..=3).for_each(|length| each(&with_odd, length, &mut run));
+        each(&values, 4, &mut run);
+        let few: Vec<Record> =
+            [3, 4, 5].iter().flat_map(|&next| [split(1, 2, next), split(2, 2, next)]).chain([ground(1), ground(2)]).collect();
+        each(&few, 5, &mut run);
+        say(&format!("{count} lists of up to 5 records"));
+        [0, 10, 11, 12, 13, 14].iter().for_each(|&check| assert!(tally.seen("checker", check) > 0, "check {check}"));
+    });
+}

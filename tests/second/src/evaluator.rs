@@ -1,0 +1,38 @@
+//! The evaluator of groupings, and check 8.
+use crate::answer::{Answer, Refusal, refuse};
+use crate::reader::accept;
+use crate::sheet::{Sheet, Sign, Term};
+
+/// "It answers 0 if all conditions are met, else the lowest condition that isn't."
+pub fn evaluate(bytes: &[u8], grouping: &[u8]) -> Result<Answer, Refusal> {
+    let sheet = accept(bytes)?;
+    long_enough(&sheet, grouping)?;
+    for (i, condition) in sheet.conditions.iter().enumerate() {
+        if !is_met(condition, grouping) {
+            return Ok(Answer::NotMet { condition: i + 1 });
+        }
+    }
+    Ok(Answer::AllMet)
+}
+
+/// 8: grouping "shorter than n", place n.
+pub fn long_enough(sheet: &Sheet, grouping: &[u8]) -> Result<(), Refusal> {
+    if grouping.len() < sheet.lots {
+        return refuse(8, sheet.lots);
+    }
+    Ok(())
+}
+
+/// "A condition is met when some term is true".
+pub fn is_met(condition: &[Term], grouping: &[u8]) -> bool {
+    condition.iter().any(|term| is_true(term, grouping))
+}
+
+/// ""same a b" is true when the two numbers are equal, "apart a b" when they differ", "lot i having byte i − 1 as its number".
+fn is_true(term: &Term, grouping: &[u8]) -> bool {
+    let (a, b) = (grouping[term.a - 1], grouping[term.b - 1]);
+    match term.sign {
+        Sign::Same => a == b,
+        Sign::Apart => a != b,
+    }
+}

@@ -1,0 +1,124 @@
+//! One node of the search: decisions, classes, the truth of a term, and what the node is.
+use crate::sheet::{Lot, Sheet, Sign, Term};
+
+/// "A node has a list of decisions: pairs set same and pairs set apart."
+#[derive(Clone, Copy, Debug, PartialEq, Eq)]
+pub enum Decision {
+    Same(Lot, Lot),
+    Apart(Lot, Lot),
+}
+
+#[derive(Clone, Copy, Debug, PartialEq, Eq)]
+pub enum Truth {
+    True,
+    False,
+    Open,
+}
+
+/// What a list of decisions says about the lots 1 to n.
+pub struct Known {
+    lots: usize,
+    /// Entry i: the smallest lot of lot i's class. Entry 0 is not used.
+    class: Vec<Lot>,
+    /// Entry a * (n + 1) + b: the classes with smallest lots a and b are marked apart.
+    marked: Vec<bool>,
+}
+
+impl Known {
+    /// "The same pairs split the lots into consignments; each is known by its smallest lot."
+    pub fn from(lots: usize, decisions: &[Decision]) -> Known {
+        let side = lots + 1;
+        let mut known = Known { lots, class: (0..=lots).collect(), marked: vec![false; side * side] };
+        for decision in decisions {
+            if let Decision::Same(a, b) = *decision {
+                known.join(a, b);
+            }
+        }
+        for decision in decisions {
+            if let Decision::Apart(a, b) = *decision {
+                known.mark(a, b);
+            }
+        }
+        known
+    }
+
+    /// "Joining two consignments gives every lot of both the smaller of the two numbers."
+    fn join(&mut self, a: Lot, b: Lot) {
+        let (one, other) = (self.class[a], self.class[b]);
+        for lot in 1..=self.lots {
+            if self.class[lot] == one || self.class[lot] == other {
+                self.class[lot] = one.min(other);
+            }
+        }
+    }
+
+    /// "Two consignments are marked apart when some pair set apart has one lot in each." All joins are made before the first mark.
+    fn mark(&mut self, a: Lot, b: Lot) {
+        let side = self.lots + 1;
+        let (one, other) = (self.class[a], self.class[b]);
+        self.marked[one * side + other] = true;
+        self.marked[other * side + one] = true;
+    }
+
+    /// The smallest lot of a lot's class.
+    pub fn smallest(&self, lot: Lot) -> Lot {
+        self.class[lot]
+    }
+
+    fn share(&self, a: Lot, b: Lot) -> bool {
+        self.class[a] == self.class[b]
+    }
+
+    fn marked_apart(&self, a: Lot, b: Lot) -> bool {
+        self.marked[self.class[a] * (self.lots + 1) + self.class[b]]
+    }
+
+    /// ""same a b": true if a and b share a consignment, false if theirs are marked apart, otherwise open. "apart a b": false if they share one, true if theirs
+    /// are marked apart, otherwise open. For both signs sharing is looked at first."
+    pub fn truth(&self, term: &Term) -> Truth {
+        let (shared, apart) = match term.sign {
+            Sign::Same => (Truth::True, Truth::False),
+            Sign::Apart => (Truth::False, Truth::True),
+        };
+        if self.share(term.a, term.b) {
+            shared
+        } else if self.marked_apart(term.a, term.b) {
+            apart
+        } else {
+            Truth::Open
+        }
+    }
+
+    /// "every term of its condition is false by the node rules". A condition with no term has no term that isn't.
+    pub fn all_false(&self, condition: &[Term]) -> bool {
+        condition.iter().all(|term| self.truth(term) == Truth::False)
+    }
+
+    /// "has no true term and no open "apart" term"
+    fn is_taken(&self, condition: &[Term]) -> bool {
+        let truths = || condition.iter().map(|term| (term.sign, self.truth(term)));
+        !truths().any(|(_, truth)| truth == Truth::True) && !truths().any(|found| found == (Sign::Apart, Truth::Open))
+    }
+}
+
+#[derive(Clone, Copy, Debug, PartialEq, Eq)]
+pub enum Node {
+    Met,
+    /// The condition's number.
+    Ground(usize),
+    Split(Lot, Lot),
+}
+
+/// "The node takes the lowest-numbered condition that has no true term and no open "apart" term."
+pub fn node(sheet: &Sheet, known: &Known) -> Node {
+    let Some(taken) = sheet.conditions.iter().position(|condition| known.is_taken(condition)) else {
+        // "No such condition: the node is *met*."
+        return Node::Met;
+    };
+    match sheet.conditions[taken].iter().find(|term| known.truth(term) == Truth::Open) {
+        // "It has no open term: the node is a *ground*, naming the condition."
+        None => Node::Ground(taken + 1),
+        // "Otherwise it is a *split* on its first open term (a "same" term), lots as written in the term"
+        Some(term) => Node::Split(term.a, term.b),
+    }
+}

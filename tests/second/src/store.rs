@@ -1,0 +1,29 @@
+//! The records of the node store, as bytes.
+use crate::limits::*;
+
+/// "kind, spare 0 (one byte each), first, second, next (two bytes each)"
+#[derive(Clone, Copy, Debug, PartialEq, Eq)]
+pub struct Record {
+    pub kind: u8,
+    pub spare: u8,
+    pub first: u16,
+    pub second: u16,
+    pub next: u16,
+}
+
+impl Record {
+    pub fn to_bytes(self) -> [u8; NODE_LENGTH] {
+        let (first, second, next) = (self.first.to_le_bytes(), self.second.to_le_bytes(), self.next.to_le_bytes());
+        [self.kind, self.spare, first[0], first[1], second[0], second[1], next[0], next[1]]
+    }
+
+    pub fn from_bytes(bytes: &[u8]) -> Record {
+        let pair = |at: usize| u16::from_le_bytes([bytes[at], bytes[at + 1]]);
+        Record { kind: bytes[0], spare: bytes[1], first: pair(2), second: pair(4), next: pair(6) }
+    }
+}
+
+/// The bytes of a list of records, one after the other.
+pub fn list_bytes(records: &[Record]) -> Vec<u8> {
+    records.iter().flat_map(|record| record.to_bytes()).collect()
+}

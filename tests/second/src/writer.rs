@@ -1,0 +1,52 @@
+//! The bytes of a sheet, for tests: records in the order of the conditions, or in any order.
+use crate::limits::{APART, SAME, TERM_LENGTH};
+use crate::sheet::{Sign, Term};
+
+pub fn same(a: usize, b: usize) -> Term {
+    Term { sign: Sign::Same, a, b }
+}
+
+pub fn apart(a: usize, b: usize) -> Term {
+    Term { sign: Sign::Apart, a, b }
+}
+
+/// The sheet whose term records stand in the order of the conditions and their terms.
+pub fn sheet_bytes(lots: usize, conditions: &[Vec<Term>]) -> Vec<u8> {
+    let terms = conditions.iter().map(Vec::len).sum();
+    let order: Vec<usize> = (1..=terms).collect();
+    sheet_bytes_in(lots, conditions, &order)
+}
+
+/// The sheet whose i-th term, in the order of the conditions and their terms, has the record number `order[i - 1]`.
+pub fn sheet_bytes_in(lots: usize, conditions: &[Vec<Term>], order: &[usize]) -> Vec<u8> {
+    let mut heads = Vec::new();
+    let mut records = vec![[0u8; TERM_LENGTH]; order.len()];
+    let mut passed = 0;
+    for condition in conditions {
+        heads.push(if condition.is_empty() { 0 } else { order[passed] });
+        for (i, term) in condition.iter().enumerate() {
+            let next = if i + 1 < condition.len() { order[passed + i + 1] } else { 0 };
+            records[order[passed + i] - 1] = record(term, next);
+        }
+        passed += condition.len();
+    }
+    let mut bytes = Vec::new();
+    for number in [lots, conditions.len(), order.len()].into_iter().chain(heads) {
+        bytes.extend_from_slice(&two_bytes(number));
+    }
+    bytes.extend(records.iter().flatten());
+    bytes
+}
+
+fn record(term: &Term, next: usize) -> [u8; TERM_LENGTH] {
+    let sign = match term.sign {
+        Sign::Same => SAME,
+        Sign::Apart => APART,
+    };
+    let ([a, a_high], [b, b_high], [next, next_high]) = (two_bytes(term.a), two_bytes(term.b), two_bytes(next));
+    [sign, 0, a, a_high, b, b_high, next, next_high]
+}
+
+fn two_bytes(number: usize) -> [u8; 2] {
+    u16::try_from(number).expect("a number of two bytes").to_le_bytes()
+}
