@@ -19,14 +19,17 @@ fn main() {
     let root = Path::new(env!("CARGO_MANIFEST_DIR")).parent().expect("the package lies in the repository");
     println!("cargo::rerun-if-env-changed=LIHUMBAY_ARCHIVE");
     let folder = match env::var_os("LIHUMBAY_ARCHIVE") {
-        Some(folder) => PathBuf::from(folder),
+        Some(folder) => {
+            let folder = PathBuf::from(folder);
+            println!("cargo::rerun-if-changed={}", folder.join("libexports.a").display());
+            folder
+        }
         None => {
             println!("cargo::rerun-if-changed={}", root.join("crates").display());
             println!("cargo::rerun-if-changed={}", root.join("crates.txt").display());
             built_by_rt(root)
         }
     };
-    println!("cargo::rerun-if-changed={}", folder.join("libexports.a").display());
     println!("cargo::rustc-link-search=native={}", folder.display());
     println!("cargo::rustc-link-lib=static=exports");
 }
