@@ -96,7 +96,8 @@ impl Classes {
         }
     }
 
-    // Whether some pair of the first `count` has one lot in the class of a and one in the class of b, the latest pair first.
+    // Whether some pair of the first `count` has one lot in the class of a and one in the class of b, the latest pair first. A pair whose
+    // classes have another exclusive or is not one: one test that nearly always tells is quicker than the four.
     pub fn marked_apart(self, pairs: &[u8], count: usize, a: Lot, b: Lot) -> Marked
         requires { ⌜ PairsWithin (now pairs) count × (a .0 ≤ mostLots) × (b .0 ≤ mostLots) ⌝ }
         ensures classes { λ r. ⌜ r .classes ≡ self ⌝ }
@@ -106,6 +107,7 @@ impl Classes {
         let second = b.0 as usize;
         let x = self.lots[first];
         let y = self.lots[second];
+        let both = x ^ y;
         let mut left = count;
         while 0 < left {
             left -= 1;
@@ -113,6 +115,9 @@ impl Classes {
             let q = pairs[2 * left + 1];
             let u = self.lots[p as usize];
             let v = self.lots[q as usize];
+            if u ^ v != both {
+                continue;
+            }
             if between(x, y, u, v) {
                 return Marked {
                     classes: self,

@@ -5,16 +5,16 @@ use mathlib.Core.Path.{_≡_, refl, sym, _∙_}
 use native.Mathlib.Omega.{arith}
 use lib.ListN.{getD}
 use Rattle.sheet.specs.Format.{mostLots}
-use Rattle.classes.proofs.Marks.{markedBy, found, passed, none-left}
+use Rattle.classes.proofs.Marks.{markedBy, found, passed, passed-by-xor, none-left}
 use Rattle.classes.proofs.Classes.marked_apart.Statement.{statement}
 use Rattle.classes.proofs.Classes.marked_apart.Tie as tie
 
 abbrev Inv-loop : tie.InvT-loop
-Inv-loop pairs count self first second x y left₀ left =
+Inv-loop pairs count self first second x y both left₀ left =
     (left ≤ count) × (markedBy (self .lots) pairs x y count ≡ markedBy (self .lots) pairs x y left)
 
 abbrev μ-loop : tie.MeasureT-loop
-μ-loop pairs count self first second x y left₀ left = left
+μ-loop pairs count self first second x y both left₀ left = left
 
 cast-first : tie.Need-cast-first Inv-loop μ-loop
 cast-first c = search needs
@@ -69,29 +69,38 @@ cast-v c = omega (arith, pair-lots (c .before .before .before))
 element-copy-out-v : tie.Need-element-copy-out-v Inv-loop μ-loop
 element-copy-out-v c = omega (arith, pair-lots (c .before .before .before))
 
-between-requires : tie.Need-between-requires Inv-loop μ-loop
-between-requires c κs = search needs
-
-returns : tie.Need-returns Inv-loop μ-loop
-returns c =
-    let h = c .before .before .before .before .before .before .before in
-    let a = h .before .before .before .before .before .before .args in (
-      refl,
-      sym
-          (h .loop .inv .1
-          ∙ found (a .t1 .lots) (a .pairs .now) _ _ (h .loop .left) (omega arith) (sym (c .before .between .ensures) ∙ c .if1 .taken)),
-    )
-
 loop-less : tie.Need-loop-less Inv-loop μ-loop
 loop-less c = search needs
 
 loop-again : tie.Need-loop-again Inv-loop μ-loop
 loop-again c =
-    let h = c .before .before .before .before .before .before .before in
+    let h = c .before .before .before .before .before .before in
+    let a = h .before .before .before .before .before .before .args in
+    (search needs, h .loop .inv .1 ∙ passed-by-xor (a .t1 .lots) (a .pairs .now) _ _ (h .loop .left) (omega arith) (c .if1 .taken))
+
+between-requires : tie.Need-between-requires Inv-loop μ-loop
+between-requires c κs = search needs
+
+returns : tie.Need-returns Inv-loop μ-loop
+returns c =
+    let h = c .before .before .before .before .before .before .before .before in
+    let a = h .before .before .before .before .before .before .args in (
+      refl,
+      sym
+          (h .loop .inv .1
+          ∙ found (a .t1 .lots) (a .pairs .now) _ _ (h .loop .left) (omega arith) (sym (c .before .between .ensures) ∙ c .if2 .taken)),
+    )
+
+loop-less-2 : tie.Need-loop-less-2 Inv-loop μ-loop
+loop-less-2 c = search needs
+
+loop-again-2 : tie.Need-loop-again-2 Inv-loop μ-loop
+loop-again-2 c =
+    let h = c .before .before .before .before .before .before .before .before in
     let a = h .before .before .before .before .before .before .args in (
       search needs,
       h .loop .inv .1
-          ∙ passed (a .t1 .lots) (a .pairs .now) _ _ (h .loop .left) (omega arith) (sym (c .before .between .ensures) ∙ c .if1 .left),
+          ∙ passed (a .t1 .lots) (a .pairs .now) _ _ (h .loop .left) (omega arith) (sym (c .before .between .ensures) ∙ c .if2 .left),
     )
 
 returns-2 : tie.Need-returns-2 Inv-loop μ-loop
@@ -121,8 +130,10 @@ marked-apart-spec =
     element-copy-out-u
     cast-v
     element-copy-out-v
-    between-requires
-    returns
     loop-less
     loop-again
+    between-requires
+    returns
+    loop-less-2
+    loop-again-2
     returns-2)
