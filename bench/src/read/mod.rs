@@ -1,0 +1,3 @@
+//! The readers that are compared.
+pub mod plain;
+pub mod tuned;
