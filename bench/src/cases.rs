@@ -1,5 +1,5 @@
 //! The sheets that the searches run on, with the answer and the count that each is known to have.
-use crate::families::{chain, circ, colouring, long_condition, mixed, phe, random, two_ways, worst_case};
+use crate::families::{self, chain, circ, colouring, long_condition, mixed, phe, random, two_ways, worst_case};
 use crate::records::MOST;
 use crate::sheets::Sheet;
 
@@ -10,16 +10,6 @@ pub enum Answer {
     Full,
 }
 
-impl Answer {
-    pub fn word(self) -> &'static str {
-        match self {
-            Answer::Met => "met",
-            Answer::Cannot => "cannot",
-            Answer::Full => "full",
-        }
-    }
-}
-
 pub struct Case {
     /// A short name for commands and data, and the name in words.
     pub key: String,
@@ -27,18 +17,8 @@ pub struct Case {
     pub family: &'static str,
     pub sheet: Sheet,
     pub answer: Answer,
-    /// The nodes of the whole search; those visited are at most as many as the store has room for.
+    /// The nodes of the whole search, of which a full store has only the first.
     pub nodes: usize,
-}
-
-impl Case {
-    pub fn visited(&self) -> usize {
-        self.nodes.min(MOST)
-    }
-
-    pub fn longest(&self) -> usize {
-        self.sheet.conditions.iter().map(Vec::len).max().unwrap_or(0)
-    }
 }
 
 fn case(key: &str, name: &str, family: &'static str, sheet: Sheet, answer: Answer, nodes: usize) -> Case {
@@ -51,6 +31,12 @@ fn long_conditions() -> Vec<Case> {
         case(&key, &name, "long condition", long_condition(terms), Answer::Cannot, 2 * terms + 1)
     };
     [255, 511, 1023].map(one).into()
+}
+
+/// The longest path that a sheet can have; it is measured by the checker's jobs.
+pub fn deep(terms: usize) -> Case {
+    let (key, name) = (format!("deep-{terms}"), format!("one condition of {terms} terms, one of none"));
+    case(&key, &name, "long condition", families::deep(terms), Answer::Cannot, 2 * terms + 1)
 }
 
 /// With G = 1 + w + .. + w^r the tree has G grounds and G - 1 splits.

@@ -8,6 +8,7 @@ pub struct Classes {
     members: [u128; 128],
     /// For each class the lots that a pair sets apart from one of its own.
     apart: [u128; 128],
+    sizes: [u8; 128],
 }
 
 /// A join, as needed to undo it: the class that went up in the other, and that one's marks before.
@@ -40,7 +41,12 @@ pub fn lots_of(mut set: u128) -> impl Iterator<Item = u8> {
 
 impl Classes {
     pub fn new() -> Classes {
-        Classes { class: std::array::from_fn(|lot| lot as u8), members: std::array::from_fn(|lot| 1 << lot), apart: [0; 128] }
+        Classes {
+            class: std::array::from_fn(|lot| lot as u8),
+            members: std::array::from_fn(|lot| 1 << lot),
+            apart: [0; 128],
+            sizes: [1; 128],
+        }
     }
 
     #[inline]
@@ -59,6 +65,12 @@ impl Classes {
         self.apart[index(x)] & self.members[index(y)] != 0
     }
 
+    /// The smaller of two classes, then the larger.
+    #[inline]
+    pub fn by_size(&self, x: u8, y: u8) -> (u8, u8) {
+        if self.sizes[index(x)] < self.sizes[index(y)] { (x, y) } else { (y, x) }
+    }
+
     /// The lots of one class go over into another. Marks name lots and not classes, so those of third classes stay as they are.
     #[inline]
     pub fn join(&mut self, from: u8, into: u8) -> Join {
@@ -68,6 +80,7 @@ impl Classes {
         }
         self.members[index(into)] |= self.members[index(from)];
         self.apart[index(into)] |= self.apart[index(from)];
+        self.sizes[index(into)] += self.sizes[index(from)];
         join
     }
 
@@ -78,6 +91,7 @@ impl Classes {
         }
         self.members[index(join.into)] &= !self.members[index(join.from)];
         self.apart[index(join.into)] = join.marks;
+        self.sizes[index(join.into)] -= self.sizes[index(join.from)];
     }
 
     /// Sets a pair apart; whether each of its two marks is new.

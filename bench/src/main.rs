@@ -1,62 +1,50 @@
+//! Measures the proved services beside Rust baselines: `bench/run.sh` runs all of it.
+mod axis;
 mod cases;
+mod check;
 mod classes;
 mod clock;
+mod compare;
 mod families;
+mod instructions;
+mod jobs;
+mod lists;
+mod plots;
 mod random;
 mod read;
 mod records;
+mod report;
 mod rounds;
+mod rows;
 mod search;
 mod sheets;
+mod stack;
+mod svg;
+mod tables;
 mod terms;
+mod z3;
 
-use cases::Case;
-use rounds::Plan;
-use std::hint::black_box;
+use std::process::ExitCode;
 
-const STORE: usize = 65_535 * 8;
+const USAGE: &str = "measure all [quick]       compare, time, count instructions, run z3 and the stack test, write data, plots and tables
+measure report            write the plots and tables again from the data
+measure compare           compare alone
+measure stack             run the deepest search and check on the program's own stack
+measure once SERVICE KEY CONTENDER     one call, for counting instructions";
 
-fn agree(case: &Case) {
-    let bytes = case.sheet.bytes();
-    let outcomes = search::ALL.map(|(_, search)| {
-        let (mut grouping, mut store) = (vec![170; 128], vec![170; STORE]);
-        let numbers = search(&bytes, &mut grouping, &mut store);
-        (numbers, grouping, store)
-    });
-    for (i, outcome) in outcomes.iter().enumerate() {
-        assert!(*outcome == outcomes[0], "{}: {} differs from the product", case.name, search::ALL[i].0);
-    }
-    let n = outcomes[0].0;
-    let known = match case.answer {
-        cases::Answer::Met => records::answered(1, case.nodes as u32, 0),
-        cases::Answer::Cannot => records::answered(2, case.nodes as u32, 0),
-        cases::Answer::Full => records::refused(9, 65535),
-    };
-    assert!(n == known, "{}: {n:?}", case.name);
-}
-
-fn main() {
-    let plan = Plan { rounds: 7, batch: 0.05 };
-    println!("{:<44} {:>6} {:>8} {:>22} {:>22} {:>22}", "sheet", "nodes", "product", "plain", "tuned", "tuned, checked");
-    for case in cases::all() {
-        agree(&case);
-        let bytes = case.sheet.bytes();
-        let mut buffers = vec![([0u8; 128], vec![0u8; STORE]); search::ALL.len()];
-        let bytes = &bytes;
-        let mut contenders: Vec<Box<dyn FnMut()>> = search::ALL
-            .iter()
-            .zip(&mut buffers)
-            .map(|((_, search), (g, s))| {
-                Box::new(move || {
-                    black_box(search(black_box(bytes), g, s));
-                }) as Box<dyn FnMut()>
-            })
-            .collect();
-        let taken = rounds::take(plan, &mut contenders);
-        print!("{:<44} {:>6} {:>8.1}", case.name, case.visited(), taken[0].time.least * 1e9 / case.visited() as f64);
-        for t in &taken[1..] {
-            print!("{:>9.1}{:>7.2} ({:.2}-{:.2})", t.time.least * 1e9 / case.visited() as f64, t.ratio.middle, t.ratio.least, t.ratio.most);
+fn main() -> ExitCode {
+    let words: Vec<String> = std::env::args().skip(1).collect();
+    match words.iter().map(String::as_str).collect::<Vec<_>>()[..] {
+        ["all"] => report::measure(rounds::Plan { rounds: 9, batch: 0.1 }),
+        ["all", "quick"] => report::measure(rounds::Plan { rounds: 3, batch: 0.02 }),
+        ["report"] => report::write(),
+        ["compare"] => report::compare_all(),
+        ["stack"] => stack::on_own(),
+        ["once", service, key, contender] => instructions::once(service, key, contender),
+        _ => {
+            eprintln!("{USAGE}");
+            return ExitCode::from(2);
         }
-        println!();
     }
+    ExitCode::SUCCESS
 }

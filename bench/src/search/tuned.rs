@@ -22,7 +22,6 @@ struct Split {
 struct Search<'a> {
     layout: Layout,
     classes: Classes,
-    sizes: [u8; 128],
     /// The conditions with a "same" term whose lots share a class.
     passed: Conditions,
     /// The conditions all of whose "apart" terms share a class, the number of those that don't, and the conditions of those that came to share one, in order.
@@ -80,15 +79,13 @@ impl Search<'_> {
     #[inline]
     fn join(&mut self, a: u8, b: u8) -> Join {
         let (x, y) = (self.classes.of(a), self.classes.of(b));
-        let smaller = self.sizes[usize::from(x & 127)] < self.sizes[usize::from(y & 127)];
-        let (from, into) = if smaller { (x, y) } else { (y, x) };
+        let (from, into) = self.classes.by_size(x, y);
         let others = self.classes.members(into);
         for lot in lots_of(self.classes.members(from)) {
             for other in lots_of(self.layout.partners[usize::from(lot & 127)] & others) {
                 self.share(lot, other);
             }
         }
-        self.sizes[usize::from(into & 127)] += self.sizes[usize::from(from & 127)];
         self.classes.join(from, into)
     }
 
@@ -101,7 +98,6 @@ impl Search<'_> {
             remove(&mut self.ready, condition);
             self.left[usize::from(condition)] += 1;
         }
-        self.sizes[usize::from(join.into & 127)] -= self.sizes[usize::from(join.from & 127)];
         self.classes.undo(join);
     }
 
@@ -168,7 +164,7 @@ pub fn search(sheet: &[u8], grouping: &mut [u8], store: &mut [u8]) -> Numbers {
     let (passed, ready, left) = (layout.passed, layout.ready, layout.left);
     let records = records::of_store(store);
     let (trail, path) = (Vec::with_capacity(layout.aparts.len()), Vec::with_capacity(64));
-    let mut search = Search { layout, classes: Classes::new(), sizes: [1; 128], passed, ready, left, trail, path, records, count: 0 };
+    let mut search = Search { layout, classes: Classes::new(), passed, ready, left, trail, path, records, count: 0 };
     let end = search.run();
     if end == End::Met {
         let (lots, _, _) = terms::header(sheet);

@@ -1,0 +1,70 @@
+//! The checker of document 01 word for word: for each ground the classes and the marks are made from the path. It doesn't check the sheet.
+use crate::check::{Path, Split, walk};
+use crate::terms::{self, Term};
+use lihumbay::raw::Numbers;
+
+struct Plain {
+    conditions: Vec<Vec<Term>>,
+    /// The splits, and whether each is in its same branch.
+    splits: Vec<(Split, bool)>,
+}
+
+impl Plain {
+    /// The smallest lot of each lot's class.
+    fn classes(&self) -> [u8; 128] {
+        let mut classes: [u8; 128] = std::array::from_fn(|lot| lot as u8);
+        for (split, _) in self.splits.iter().filter(|(_, same)| *same) {
+            let (x, y) = (classes[usize::from(split.a)], classes[usize::from(split.b)]);
+            if x != y {
+                classes = classes.map(|z| if z == x || z == y { x.min(y) } else { z });
+            }
+        }
+        classes
+    }
+
+    /// For each class the classes marked apart from it, as bits.
+    fn marks(&self, classes: &[u8; 128]) -> [u128; 128] {
+        let mut marks = [0; 128];
+        for (split, _) in self.splits.iter().filter(|(_, same)| !same) {
+            let (x, y) = (classes[usize::from(split.a)], classes[usize::from(split.b)]);
+            marks[usize::from(x)] |= 1 << y;
+            marks[usize::from(y)] |= 1 << x;
+        }
+        marks
+    }
+}
+
+impl Path for Plain {
+    fn depth(&self) -> usize {
+        self.splits.len()
+    }
+
+    fn push(&mut self, split: Split) {
+        self.splits.push((split, true));
+    }
+
+    fn refutes(&mut self, condition: usize) -> bool {
+        let classes = self.classes();
+        let marks = self.marks(&classes);
+        self.conditions[condition].iter().all(|term| {
+            let (x, y) = (classes[usize::from(term.a)], classes[usize::from(term.b)]);
+            if term.same { x != y && marks[usize::from(x)] >> y & 1 == 1 } else { x == y }
+        })
+    }
+
+    fn turn(&mut self) -> Option<Split> {
+        while let Some((split, same)) = self.splits.pop() {
+            if same {
+                self.splits.push((split, false));
+                return Some(split);
+            }
+        }
+        None
+    }
+}
+
+pub fn check(sheet: &[u8], list: &[u8]) -> Numbers {
+    let (_, conditions, _) = terms::header(sheet);
+    let conditions = (0..conditions).map(|c| terms::chain(sheet, c).collect()).collect();
+    walk(&mut Plain { conditions, splits: Vec::new() }, sheet, list)
+}
