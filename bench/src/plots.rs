@@ -29,10 +29,11 @@ fn series<'a>(rows: &[&'a Row], of: impl Fn(&'a Row) -> (f64, f64)) -> Vec<Serie
     CONTENDERS.map(one).into()
 }
 
-fn legend(picture: &mut Picture, names: &[String], at: (f64, f64)) {
+/// The names of series by number, side by side.
+fn legend<'a>(picture: &mut Picture, names: impl Iterator<Item = (usize, &'a str)>, at: (f64, f64)) {
     let mut x = at.0;
-    for (i, name) in names.iter().enumerate() {
-        picture.mark(i, (x, at.1 - 4.0), name);
+    for (series, name) in names {
+        picture.mark(series, (x, at.1 - 4.0), name);
         picture.text("", (x + 10.0, at.1), Anchor::Start, name);
         x += 30.0 + 7.5 * name.len() as f64;
     }
@@ -46,7 +47,7 @@ fn scatter(title: &str, x_label: &str, y_label: &str, all: Vec<Series>) -> Strin
     let x = Axis::over(points().map(|point| point.x), left, right);
     let y = Axis::over(points().map(|point| point.y), bottom, top);
     picture.text("title", (left, 26.0), Anchor::Start, title);
-    legend(&mut picture, &all.iter().map(|series| series.name.clone()).collect::<Vec<_>>(), (left + 6.0, 52.0));
+    legend(&mut picture, all.iter().map(|series| series.name.as_str()).enumerate(), (left + 6.0, 52.0));
     for tick in x.ticks() {
         picture.line("grid", (x.place(tick), top), (x.place(tick), bottom));
         picture.text("", (x.place(tick), bottom + 18.0), Anchor::Middle, &label(tick));
@@ -70,13 +71,13 @@ fn scatter(title: &str, x_label: &str, y_label: &str, all: Vec<Series>) -> Strin
 fn ranges(title: &str, rows: &[&Row], marks: &[f64]) -> String {
     let mut names: Vec<&str> = rows.iter().map(|row| row.name.as_str()).collect();
     names.dedup();
-    let (left, top, right) = (300.0, 70.0, 770.0);
+    let (left, top, right) = (310.0, 84.0, 770.0);
     let bottom = top + 24.0 * names.len() as f64;
     let mut picture = Picture::new(800.0, bottom + 60.0);
     let shown = || rows.iter().filter(|row| row.contender == "plain" || row.contender == "tuned");
     let x = Axis::over(shown().flat_map(|row| [row.ratio.least, row.ratio.most]).chain(marks.iter().copied()), left, right);
     picture.text("title", (20.0, 26.0), Anchor::Start, title);
-    legend(&mut picture, &["".into(), "beside plain".into(), "beside tuned".into()][..], (left - 24.0, 52.0));
+    legend(&mut picture, [(1, "beside plain"), (2, "beside tuned")].into_iter(), (left + 6.0, 50.0));
     for tick in x.ticks() {
         picture.line("grid", (x.place(tick), top), (x.place(tick), bottom));
         picture.text("", (x.place(tick), bottom + 18.0), Anchor::Middle, &label(tick));

@@ -77,6 +77,15 @@ fn measure_service(plan: Plan, service: Service) -> Vec<Row> {
     compared(service).flat_map(|job| measure_job(plan, &job)).collect()
 }
 
+/// Milliseconds that z3 took: a process starts no more evenly than to a millisecond, so that less isn't told apart.
+fn milliseconds(seconds: Option<f64>) -> String {
+    match seconds {
+        None => format!("over {},000", z3::LIMIT),
+        Some(seconds) if seconds < 1e-3 => "under 1".into(),
+        Some(seconds) => format!("{:.0}", seconds * 1e3),
+    }
+}
+
 /// z3 on the sheets of the searches, beside the product's time.
 fn measure_z3(rows: &[Row]) -> String {
     let folder = root().join("target/bench");
@@ -86,8 +95,7 @@ fn measure_z3(rows: &[Row]) -> String {
         let Some(solved) = z3::solve(&folder, &job) else { return String::new() };
         let own = rows.iter().find(|row| row.service == "search" && row.key == job.key && row.contender == "product");
         let product = own.map_or(0.0, |row| row.time.least * row.units as f64 / 1e6);
-        let took = solved.seconds.map_or(format!("over {},000", z3::LIMIT), |seconds| format!("{:.1}", seconds * 1e3));
-        text += &format!("{}\t{}\t{product:.2}\t{took}\t{}\n", job.name, job.answer(), solved.answer);
+        text += &format!("{}\t{}\t{product:.2}\t{}\t{}\n", job.name, job.answer(), milliseconds(solved.seconds), solved.answer);
     }
     text
 }
