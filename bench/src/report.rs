@@ -78,7 +78,7 @@ fn measure_service(plan: Plan, service: Service) -> Vec<Row> {
 }
 
 /// Milliseconds that z3 took: a process starts no more evenly than to a millisecond, so that less isn't told apart.
-fn milliseconds(seconds: Option<f64>) -> String {
+fn z3_time(seconds: Option<f64>) -> String {
     match seconds {
         None => format!("over {},000", z3::LIMIT),
         Some(seconds) if seconds < 1e-3 => "under 1".into(),
@@ -95,7 +95,7 @@ fn measure_z3(rows: &[Row]) -> String {
         let Some(solved) = z3::solve(&folder, &job) else { return String::new() };
         let own = rows.iter().find(|row| row.service == "search" && row.key == job.key && row.contender == "product");
         let product = own.map_or(0.0, |row| row.time.least * row.units as f64 / 1e6);
-        text += &format!("{}\t{}\t{product:.2}\t{}\t{}\n", job.name, job.answer(), milliseconds(solved.seconds), solved.answer);
+        text += &format!("{}\t{}\t{product:.2}\t{}\t{}\n", job.name, job.answer(), z3_time(solved.seconds), solved.answer);
     }
     text
 }
