@@ -35,16 +35,20 @@ fn changed_lists(job: &mut Job) {
     with_list(job, job.list[..job.list.len() - 8].to_vec(), ", the last record missing");
 }
 
-/// Each byte of the sheet changed by itself, and the sheet cut short.
-fn changed_sheets(job: &mut Job) {
-    let product = |bytes: &[u8]| crate::read::ALL.map(|(_, read)| read(bytes));
-    for at in 0..job.bytes.len() {
-        let mut bytes = job.bytes.clone();
-        bytes[at] ^= 1 << (at % 8);
-        let answers = product(&bytes);
-        assert!(answers.iter().all(|answer| *answer == answers[0]), "{}: the readers differ with byte {at} changed", job.name);
-        let answers = product(&job.bytes[..at]);
-        assert!(answers.iter().all(|answer| *answer == answers[0]), "{}: the readers differ on {at} bytes", job.name);
+/// Each bit of the sheet changed by itself, and the sheet cut at each length.
+fn changed_sheets(job: &Job) {
+    let same = |bytes: &[u8], what: &str, at: usize| {
+        let answers = crate::read::ALL.map(|(_, read)| read(bytes));
+        assert!(answers.iter().all(|answer| *answer == answers[0]), "{}: the readers differ, {what} {at}", job.name);
+    };
+    let mut bytes = job.bytes.clone();
+    for at in 0..bytes.len() {
+        same(&job.bytes[..at], "cut at", at);
+        for bit in 0..8 {
+            bytes[at] ^= 1 << bit;
+            same(&bytes, "changed at", at);
+            bytes[at] ^= 1 << bit;
+        }
     }
 }
 
