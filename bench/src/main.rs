@@ -9,6 +9,7 @@ mod families;
 mod instructions;
 mod jobs;
 mod lists;
+mod marks;
 mod plots;
 mod random;
 mod read;

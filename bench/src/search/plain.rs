@@ -1,5 +1,6 @@
 //! The search of document 01 word for word: each node looks at every condition from the first on, and gives each term its value by the node's classes and marks.
 //! It doesn't check the sheet.
+use crate::marks::Marks;
 use crate::records;
 use crate::search::{End, answer};
 use crate::terms::{self, Term};
@@ -11,7 +12,7 @@ struct Classes([u8; 128]);
 
 impl Classes {
     fn of(&self, lot: u8) -> u8 {
-        self.0[usize::from(lot)]
+        self.0[usize::from(lot & 127)]
     }
 
     fn joined(&self, a: u8, b: u8) -> Classes {
@@ -37,8 +38,8 @@ struct Search<'a> {
     conditions: Vec<Vec<Term>>,
     /// The pairs that the path sets apart.
     apart: Vec<(u8, u8)>,
-    /// For each class the classes marked apart from it, as bits; all 0 between two nodes.
-    marks: [u128; 128],
+    /// The marks of the node that is looked at; none between two nodes.
+    marks: Marks,
     grouping: &'a mut [u8],
     records: &'a mut [[u8; 8]],
     count: usize,
@@ -49,7 +50,7 @@ impl Search<'_> {
         let (x, y) = (classes.of(term.a), classes.of(term.b));
         if x == y {
             if term.same { Value::True } else { Value::False }
-        } else if self.marks[usize::from(x)] >> y & 1 == 1 {
+        } else if self.marks.between(x, y) {
             if term.same { Value::False } else { Value::True }
         } else {
             Value::Open
@@ -81,18 +82,11 @@ impl Search<'_> {
         Node::Met
     }
 
-    /// The node with the marks made for it: for each pair set apart, the classes of its lots.
+    /// The node with the marks made for it.
     fn marked_node(&mut self, classes: &Classes) -> Node {
-        for &(a, b) in &self.apart {
-            let (x, y) = (classes.of(a), classes.of(b));
-            self.marks[usize::from(x)] |= 1 << y;
-            self.marks[usize::from(y)] |= 1 << x;
-        }
+        self.marks.stamp(&classes.0, self.apart.iter().copied(), true);
         let node = self.node(classes);
-        for &(a, b) in &self.apart {
-            self.marks[usize::from(classes.of(a))] = 0;
-            self.marks[usize::from(classes.of(b))] = 0;
-        }
+        self.marks.stamp(&classes.0, self.apart.iter().copied(), false);
         node
     }
 
@@ -144,7 +138,7 @@ pub fn search(sheet: &[u8], grouping: &mut [u8], store: &mut [u8]) -> Numbers {
     let mut search = Search {
         conditions: (0..conditions).map(|c| terms::chain(sheet, c).collect()).collect(),
         apart: Vec::new(),
-        marks: [0; 128],
+        marks: Marks::new(),
         grouping: &mut grouping[..lots],
         records: records::of_store(store),
         count: 0,
