@@ -75,10 +75,10 @@ pub fn instructions(rows: &[Row], service: &str) -> String {
     table(&header, jobs.iter().map(line))
 }
 
-/// Lines of a file of fields, as a table.
+/// Lines of a file of fields, as a table. The file is empty where its command wasn't there.
 pub fn plain(text: &str) -> String {
     let mut lines = text.lines().map(|line| line.split('\t').map(String::from).collect::<Vec<_>>());
-    let Some(header) = lines.next() else { return String::new() };
+    let Some(header) = lines.next() else { return "Not measured in this run.\n".into() };
     table(&header.iter().map(String::as_str).collect::<Vec<_>>(), lines)
 }
 
