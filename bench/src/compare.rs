@@ -1,5 +1,7 @@
 //! Nothing is timed before the contenders agree: in the answer, in the count that the input is known to have, and in every byte of both buffers.
+use crate::families;
 use crate::jobs::{Buffers, Job, Service};
+use crate::records::answered;
 
 /// Changed lists are tried where a list is shorter than this.
 const SHORT_LIST: usize = 8 * 10_000;
@@ -49,6 +51,16 @@ fn changed_sheets(job: &Job) {
             same(&bytes, "changed at", at);
             bytes[at] ^= 1 << bit;
         }
+    }
+}
+
+/// The searches on random sheets whose answers aren't known beforehand, of few lots and of many, with their records in random order.
+pub fn random_searches() {
+    for seed in 1..=100 {
+        let sheet = families::mixed(seed, 4 + seed as usize);
+        let (key, name, bytes) = (String::new(), format!("random sheet {seed}"), sheet.bytes_shuffled(seed));
+        let (units, known, list) = (1, answered(0, 0, 0), Vec::new());
+        agree(&Job { service: Service::Search, key, name, family: "random", sheet, bytes, list, units, known }, "");
     }
 }
 

@@ -34,8 +34,9 @@ fn compared(service: Service) -> impl Iterator<Item = Job> {
 }
 
 pub fn compare_all() {
+    compare::random_searches();
     let count = Service::ALL.into_iter().flat_map(compared).count();
-    println!("{count} inputs: all contenders agree");
+    println!("{count} inputs and 100 random sheets: all contenders agree");
 }
 
 /// Times the contenders of a job in turns.
@@ -130,6 +131,7 @@ fn machine() -> String {
 
 pub fn measure(plan: Plan) {
     let machine = machine();
+    compare::random_searches();
     let rows: Vec<Row> = Service::ALL.into_iter().flat_map(|service| measure_service(plan, service)).collect();
     save("machine.txt", &format!("{} rounds of {} s; {machine}", plan.rounds, plan.batch));
     save("times.tsv", &rows::write(&rows));
