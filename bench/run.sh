@@ -1,15 +1,10 @@
 #!/bin/sh
-# Builds the exported services and the measuring programs, and runs them. It takes about four minutes.
+# Measures the proved services: builds them, compares every contender, times, counts instructions, and writes data, plots and the tables of
+# docs/PERFORMANCE.md. It takes about ten minutes; `bench/run.sh quick` takes about six, and its times are worth less.
 set -eu
 cd "$(dirname "$0")/.."
-rt staticlib exports
-out=target/bench
-mkdir -p "$out"
-flags="-O3 -Wall -Wextra -Iinclude -Ibench"
-library=target/staticlib/libexports.a
-cc $flags bench/bench.c bench/plain.c bench/sheets.c $library -o "$out/bench"
-cc $flags bench/check.c bench/plain_check.c bench/lists.c bench/sheets.c $library -o "$out/check"
-cc $flags bench/stack.c bench/plain.c bench/lists.c bench/sheets.c $library -pthread -o "$out/stack"
-(ulimit -s 2048 && "$out/stack")
-"$out/bench"
-"$out/check"
+cargo build --release -p measure
+measure=target/cargo/release/measure
+# The deepest search and check under a limit on the stack; then without one.
+(ulimit -s 2048 && "$measure" stack)
+"$measure" all "$@"

@@ -1,1 +1,51 @@
-fn main() {}
+//! Measures the proved services beside Rust baselines: `bench/run.sh` runs all of it.
+mod axis;
+mod cases;
+mod check;
+mod classes;
+mod clock;
+mod compare;
+mod families;
+mod instructions;
+mod jobs;
+mod lists;
+mod marks;
+mod plots;
+mod random;
+mod read;
+mod records;
+mod report;
+mod rounds;
+mod rows;
+mod search;
+mod sheets;
+mod stack;
+mod svg;
+mod tables;
+mod terms;
+mod z3;
+
+use std::process::ExitCode;
+
+const USAGE: &str = "measure all [quick]       compare, time, count instructions, run z3 and the stack test, write data, plots and tables
+measure report            write the plots and tables again from the data
+measure compare           compare alone
+measure stack             run the deepest search and check on the program's own stack
+measure once SERVICE KEY CONTENDER     one call, for counting instructions";
+
+fn main() -> ExitCode {
+    let words: Vec<String> = std::env::args().skip(1).collect();
+    match words.iter().map(String::as_str).collect::<Vec<_>>()[..] {
+        ["all"] => report::measure(rounds::Plan { rounds: 9, batch: 0.1 }),
+        ["all", "quick"] => report::measure(rounds::Plan { rounds: 3, batch: 0.02 }),
+        ["report"] => report::write(),
+        ["compare"] => report::compare_all(),
+        ["stack"] => stack::on_own(),
+        ["once", service, key, contender] => instructions::once(service, key, contender),
+        _ => {
+            eprintln!("{USAGE}");
+            return ExitCode::from(2);
+        }
+    }
+    ExitCode::SUCCESS
+}

@@ -1,0 +1,95 @@
+//! The sheets that the searches run on, with the answer and the count that each is known to have.
+use crate::families::{self, chain, circ, colouring, long_condition, mixed, phe, random, two_ways, worst_case};
+use crate::records::MOST;
+use crate::sheets::Sheet;
+
+#[derive(Clone, Copy, Debug, PartialEq, Eq)]
+pub enum Answer {
+    Met,
+    Cannot,
+    Full,
+}
+
+pub struct Case {
+    /// A short name for commands and data, and the name in words.
+    pub key: String,
+    pub name: String,
+    pub family: &'static str,
+    pub sheet: Sheet,
+    pub answer: Answer,
+    /// The nodes of the whole search, of which a full store has only the first.
+    pub nodes: usize,
+}
+
+fn case(key: &str, name: &str, family: &'static str, sheet: Sheet, answer: Answer, nodes: usize) -> Case {
+    Case { key: key.into(), name: name.into(), family, sheet, answer, nodes }
+}
+
+fn long_conditions() -> Vec<Case> {
+    let one = |terms: usize| {
+        let (key, name) = (format!("long-{terms}"), format!("one condition of {terms} terms"));
+        case(&key, &name, "long condition", long_condition(terms), Answer::Cannot, 2 * terms + 1)
+    };
+    [255, 511, 1023].map(one).into()
+}
+
+/// The longest path that a sheet can have; it is measured by the checker's jobs.
+pub fn deep(terms: usize) -> Case {
+    let (key, name) = (format!("deep-{terms}"), format!("one condition of {terms} terms, one of none"));
+    case(&key, &name, "long condition", families::deep(terms), Answer::Cannot, 2 * terms + 1)
+}
+
+/// With G = 1 + w + .. + w^r the tree has G grounds and G - 1 splits.
+fn worst_cases() -> Vec<Case> {
+    let one = |(r, w): (usize, usize)| {
+        let nodes = 2 * (0..=r as u32).map(|i| w.pow(i)).sum::<usize>() - 1;
+        let (answer, note) = if nodes > MOST { (Answer::Full, ", full") } else { (Answer::Cannot, "") };
+        case(&format!("worst-{r}-{w}"), &format!("worst case r = {r}, w = {w}{note}"), "worst case", worst_case(r, w), answer, nodes)
+    };
+    [(5, 7), (5, 8), (3, 31), (3, 40)].map(one).into()
+}
+
+fn of_document_001() -> Vec<Case> {
+    let ring = |n: usize| case(&format!("circ-{n}"), &format!("circ({n})"), "document 001", circ(n), Answer::Cannot, n * n - n + 1);
+    let hole = |n: usize| case(&format!("phe-{n}"), &format!("phe({n})"), "document 001", phe(n), Answer::Cannot, n * n + n - 1);
+    vec![ring(22), ring(23), hole(22)]
+}
+
+fn random_sheets() -> Vec<Case> {
+    let fixed = |(seed, conditions, width, nodes): (u64, usize, usize, usize)| {
+        let (key, name) = (format!("random-{conditions}-{width}-{seed}"), format!("random {conditions} x {width}, seed {seed}"));
+        case(&key, &name, "random", random(seed, conditions, width), Answer::Met, nodes)
+    };
+    let mix = |(seed, lots, answer, nodes): (u64, usize, Answer, usize)| {
+        let (key, name) = (format!("mixed-{lots}-{seed}"), format!("random 256 x 2 to 4, {lots} lots, seed {seed}"));
+        case(&key, &name, "random", mixed(seed, lots), answer, nodes)
+    };
+    let mut all: Vec<Case> = [(5, 208, 2, 5195), (10, 256, 3, 2117), (6, 256, 3, 8212)].map(fixed).into();
+    let (met, cannot) = (Answer::Met, Answer::Cannot);
+    all.extend([(31, 128, met, 32688), (49, 128, met, 59392), (53, 48, met, 36001)].map(mix));
+    all.extend([(16, 16, cannot, 41209), (98, 20, cannot, 54975)].map(mix));
+    all
+}
+
+fn colourings() -> Vec<Case> {
+    let one = |(seed, groups, members, edges, answer, nodes): (u64, usize, usize, usize, Answer, usize)| {
+        let (key, name) = (format!("colours-{groups}-{members}-{edges}"), format!("{members} lots in {groups} groups, {edges} apart"));
+        case(&key, &name, "colouring", colouring(seed, groups, members, edges), answer, nodes)
+    };
+    let met = [(13, 3, 40, 80, Answer::Met, 31915), (35, 5, 40, 195, Answer::Met, 54857)];
+    let cannot = [(1, 3, 26, 90, Answer::Cannot, 35521), (14, 4, 20, 100, Answer::Cannot, 37225)];
+    met.into_iter().chain(cannot).map(one).collect()
+}
+
+/// A link more doubles the two-way chain's tree: 10 * 2^links - 9 nodes.
+fn chains() -> Vec<Case> {
+    let two = |links: usize| {
+        let (key, name) = (format!("two-ways-{links}"), format!("chain of {links} links by two ways"));
+        case(&key, &name, "chain", two_ways(links), Answer::Cannot, 10 * (1 << links) - 9)
+    };
+    vec![case("chain-128", "chain of 128 lots", "chain", chain(128), Answer::Cannot, 255), two(8), two(12)]
+}
+
+pub fn all() -> Vec<Case> {
+    [long_conditions(), worst_cases(), of_document_001(), random_sheets(), colourings(), chains()].into_iter().flatten().collect()
+}

@@ -1,0 +1,134 @@
+//! The sheets that are measured on, by family.
+use crate::random::Random;
+use crate::sheets::{Sheet, Term, apart, same};
+
+/// The first `terms` pairs a < b of `lots` lots, each as a "same" term.
+fn same_pairs(lots: usize, terms: usize) -> Vec<Term> {
+    (1..=lots).flat_map(|a| (a + 1..=lots).map(move |b| same(a, b))).take(terms).collect()
+}
+
+/// One condition of "same" terms, and one "apart 1 1": 2 * terms + 1 nodes, on a path of `terms` splits.
+pub fn long_condition(terms: usize) -> Sheet {
+    let mut sheet = Sheet::new(128);
+    sheet.condition(same_pairs(128, terms));
+    sheet.condition([apart(1, 1)]);
+    sheet
+}
+
+/// One condition of "same" terms, and one with no term. With 1,024 terms no sheet has a longer path.
+pub fn deep(terms: usize) -> Sheet {
+    let mut sheet = Sheet::new(128);
+    sheet.condition(same_pairs(128, terms));
+    sheet.condition([]);
+    sheet
+}
+
+/// `r` conditions of `w` terms "same 1 b", no b twice, and one "apart 1 1": the most nodes that r conditions of w "same" terms can have.
+pub fn worst_case(r: usize, w: usize) -> Sheet {
+    let mut sheet = Sheet::new(r * w + 1);
+    for i in 0..r {
+        sheet.condition((i * w + 2..=i * w + w + 1).map(|b| same(1, b)));
+    }
+    sheet.condition([apart(1, 1)]);
+    sheet
+}
+
+/// The ring of source document 001, part 7.
+pub fn circ(n: usize) -> Sheet {
+    let mut sheet = Sheet::new(n);
+    sheet.condition((1..=n).map(|i| apart(i, i % n + 1)));
+    for i in 1..=n {
+        for j in i + 1..=n {
+            sheet.condition([same(i, i % n + 1), same(j, j % n + 1)]);
+        }
+    }
+    sheet
+}
+
+/// The pigeon hole of source document 001, part 7.
+pub fn phe(n: usize) -> Sheet {
+    let mut sheet = Sheet::new(n + 1);
+    for i in 1..=n {
+        for j in i + 1..=n {
+            sheet.condition([apart(i, j)]);
+        }
+    }
+    for i in 1..=n {
+        sheet.condition((1..=n).filter(|&j| j != i).map(|j| same(j, n + 1)));
+    }
+    sheet
+}
+
+/// A random term, "same" in four cases of five.
+fn random_term(random: &mut Random, lots: usize) -> Term {
+    let is_same = random.below(5) < 4;
+    let a = 1 + random.below(lots);
+    let b = 1 + random.below(lots);
+    if is_same { same(a, b) } else { apart(a, b) }
+}
+
+/// `conditions` of `width` terms over 128 lots, four fifths of them "same".
+pub fn random(seed: u64, conditions: usize, width: usize) -> Sheet {
+    let mut random = Random::new(seed);
+    let mut sheet = Sheet::new(128);
+    for _ in 0..conditions {
+        sheet.condition((0..width).map(|_| random_term(&mut random, 128)));
+    }
+    sheet
+}
+
+/// 256 conditions of 2 to 4 terms, four fifths of them "same".
+pub fn mixed(seed: u64, lots: usize) -> Sheet {
+    let mut random = Random::new(seed);
+    let mut sheet = Sheet::new(lots);
+    for _ in 0..256 {
+        let width = 2 + random.below(3);
+        sheet.condition((0..width).map(|_| random_term(&mut random, lots)));
+    }
+    sheet
+}
+
+/// Groups that are pairwise apart, `edges` random pairs of `members` lots that must be apart, and each of those lots the same as one of the groups.
+pub fn colouring(seed: u64, groups: usize, members: usize, edges: usize) -> Sheet {
+    let mut random = Random::new(seed);
+    let mut sheet = Sheet::new(groups + members);
+    for a in 1..=groups {
+        for b in a + 1..=groups {
+            sheet.condition([apart(a, b)]);
+        }
+    }
+    for _ in 0..edges {
+        let a = random.below(members);
+        let b = (a + 1 + random.below(members - 1)) % members;
+        sheet.condition([apart(groups + 1 + a, groups + 1 + b)]);
+    }
+    for v in groups + 1..=groups + members {
+        sheet.condition((1..=groups).map(|g| same(v, g)));
+    }
+    sheet
+}
+
+/// Lots 1 to n, each the same as the one after it, and the last apart from the first: 2 * n - 1 nodes.
+pub fn chain(n: usize) -> Sheet {
+    let mut sheet = Sheet::new(n);
+    for a in 1..n {
+        sheet.condition([same(a, a + 1)]);
+    }
+    sheet.condition([apart(1, n)]);
+    sheet
+}
+
+/// A chain of `links` links, each by one of two ways: from x over y or over z to the next x, four conditions of two terms. The ends are apart.
+pub fn two_ways(links: usize) -> Sheet {
+    let mut sheet = Sheet::new(3 * links + 1);
+    for i in 0..links {
+        let (x, y, z, next) = (3 * i + 1, 3 * i + 2, 3 * i + 3, 3 * i + 4);
+        for first in [same(x, y), same(y, next)] {
+            for second in [same(x, z), same(z, next)] {
+                sheet.condition([first, second]);
+            }
+        }
+    }
+    sheet.condition([apart(1, 3 * links + 1)]);
+    sheet
+}

@@ -1,0 +1,164 @@
+//! What is measured: a service on one input, done by each of its contenders.
+use crate::cases::{self, Answer, Case};
+use crate::families;
+use crate::records::{MOST, answered, refused};
+use crate::sheets::Sheet;
+use crate::{check, lists, read, search};
+use lihumbay::raw::Numbers;
+
+#[derive(Clone, Copy, PartialEq, Eq)]
+pub enum Service {
+    Search,
+    Check,
+    Read,
+}
+
+impl Service {
+    pub const ALL: [Service; 3] = [Service::Search, Service::Check, Service::Read];
+
+    pub fn word(self) -> &'static str {
+        match self {
+            Service::Search => "search",
+            Service::Check => "check",
+            Service::Read => "read",
+        }
+    }
+
+    /// What the costs are counted by.
+    pub fn unit(self) -> &'static str {
+        match self {
+            Service::Search => "node",
+            Service::Check => "record",
+            Service::Read => "term",
+        }
+    }
+
+    pub fn contenders(self) -> Vec<&'static str> {
+        match self {
+            Service::Search => search::ALL.map(|(name, _)| name).into(),
+            Service::Check => check::ALL.map(|(name, _)| name).into(),
+            Service::Read => read::ALL.map(|(name, _)| name).into(),
+        }
+    }
+}
+
+pub struct Job {
+    pub service: Service,
+    pub key: String,
+    pub name: String,
+    pub family: &'static str,
+    pub sheet: Sheet,
+    pub bytes: Vec<u8>,
+    /// The records that the checker walks; empty for the other services.
+    pub list: Vec<u8>,
+    /// How many nodes, records or terms.
+    pub units: usize,
+    pub known: Numbers,
+}
+
+/// The buffers that a search writes.
+#[derive(Clone, PartialEq, Eq)]
+pub struct Buffers {
+    pub grouping: Vec<u8>,
+    pub store: Vec<u8>,
+}
+
+impl Buffers {
+    /// Painted, so that a byte which must stay as it is shows where it doesn't.
+    pub fn new() -> Buffers {
+        Buffers { grouping: vec![170; 128], store: vec![170; 8 * MOST] }
+    }
+}
+
+impl Job {
+    pub fn run(&self, contender: usize, buffers: &mut Buffers) -> Numbers {
+        match self.service {
+            Service::Search => search::ALL[contender].1(&self.bytes, &mut buffers.grouping, &mut buffers.store),
+            Service::Check => check::ALL[contender].1(&self.bytes, &self.list),
+            Service::Read => read::ALL[contender].1(&self.bytes),
+        }
+    }
+
+    pub fn answer(&self) -> &'static str {
+        match (self.service, self.known.check, self.known.first) {
+            (Service::Search, 0, 1) => "met",
+            (Service::Search, 0, _) => "cannot",
+            (Service::Search, _, _) => "full",
+            (Service::Check, _, _) => "passes",
+            (Service::Read, _, _) => "accepted",
+        }
+    }
+}
+
+fn search_job(case: Case) -> Job {
+    let known = match case.answer {
+        Answer::Met => answered(1, case.nodes as u32, 0),
+        Answer::Cannot => answered(2, case.nodes as u32, 0),
+        Answer::Full => refused(9, MOST),
+    };
+    let (bytes, units) = (case.sheet.bytes(), case.nodes.min(MOST));
+    let Case { key, name, family, sheet, .. } = case;
+    Job { service: Service::Search, key, name, family, sheet, bytes, list: Vec::new(), units, known }
+}
+
+fn check_job(key: String, name: String, family: &'static str, sheet: Sheet, list: impl Fn(&[u8]) -> Vec<u8>) -> Job {
+    let bytes = sheet.bytes();
+    let list = list(&bytes);
+    let units = list.len() / 8;
+    Job { service: Service::Check, key, name, family, sheet, bytes, list, units, known: answered(0, 0, 0) }
+}
+
+/// The lists by key; a list is made only where it is wanted, since the search's own take a search.
+fn check_jobs(wanted: &dyn Fn(&str) -> bool) -> Vec<Job> {
+    let mut jobs = Vec::new();
+    for case in cases::all().into_iter().chain([cases::deep(1024)]).filter(|case| case.answer == Answer::Cannot) {
+        let key = format!("own-{}", case.key);
+        if wanted(&key) {
+            jobs.push(check_job(key, format!("own, {}", case.name), "own refutation", case.sheet, lists::own));
+        }
+    }
+    for joins in [0, 127] {
+        let key = format!("splits-1024-{joins}");
+        if wanted(&key) {
+            let name = format!("1,024 splits above, {joins} join");
+            jobs.push(check_job(key, name, "slow list", families::deep(1024), |_| lists::deep(joins)));
+        }
+    }
+    for (terms, pairs) in [(250, 250), (250, 1000), (500, 500), (500, 1000), (1000, 1000)] {
+        let key = format!("grounds-{terms}-{pairs}");
+        if wanted(&key) {
+            let name = format!("grounds of {terms} terms, {pairs} pairs apart");
+            jobs.push(check_job(key, name, "slow list", families::deep(terms), |_| lists::apart(pairs)));
+        }
+    }
+    jobs
+}
+
+fn read_job(key: &str, name: &str, sheet: Sheet, bytes: Vec<u8>) -> Job {
+    let (n, m, k) = (sheet.lots, sheet.conditions.len(), sheet.terms());
+    let known = answered(n as u32, m as u32, k as u32);
+    Job { service: Service::Read, key: key.into(), name: name.into(), family: "sheet", sheet, bytes, list: Vec::new(), units: k, known }
+}
+
+fn read_jobs() -> Vec<Job> {
+    let (largest, one_chain, small) = (families::random(1, 256, 4), families::deep(1024), families::chain(4));
+    let orders = [largest.bytes(), largest.bytes_shuffled(1), one_chain.bytes(), one_chain.bytes_shuffled(1), small.bytes()];
+    let [rising, mixed, chain, chain_mixed, four] = orders;
+    vec![
+        read_job("largest", "256 conditions of 4 terms, records in order", largest.clone(), rising),
+        read_job("largest-mixed", "the same, records in random order", largest, mixed),
+        read_job("one-chain", "one condition of 1,024 terms, in order", one_chain.clone(), chain),
+        read_job("one-chain-mixed", "the same, in random order", one_chain, chain_mixed),
+        read_job("small", "4 conditions of 1 term", small, four),
+    ]
+}
+
+/// The jobs of a service whose key is wanted.
+pub fn of(service: Service, wanted: &dyn Fn(&str) -> bool) -> Vec<Job> {
+    let jobs = match service {
+        Service::Search => cases::all().into_iter().filter(|case| wanted(&case.key)).map(search_job).collect(),
+        Service::Check => check_jobs(wanted),
+        Service::Read => read_jobs(),
+    };
+    jobs.into_iter().filter(|job| wanted(&job.key)).collect()
+}

@@ -1,0 +1,24 @@
+//! The marks between classes as the plain baselines have them: a table with a cell for each two classes, set for one test and cleared after it.
+
+pub struct Marks(Box<[[bool; 128]; 128]>);
+
+impl Marks {
+    pub fn new() -> Marks {
+        Marks(Box::new([[false; 128]; 128]))
+    }
+
+    /// Whether two classes are marked apart.
+    #[inline]
+    pub fn between(&self, x: u8, y: u8) -> bool {
+        self.0[usize::from(x & 127)][usize::from(y & 127)]
+    }
+
+    /// Sets or clears the marks of the pairs set apart, by the classes of their lots.
+    pub fn stamp(&mut self, classes: &[u8; 128], apart: impl Iterator<Item = (u8, u8)>, value: bool) {
+        for (a, b) in apart {
+            let (x, y) = (classes[usize::from(a & 127)], classes[usize::from(b & 127)]);
+            self.0[usize::from(x & 127)][usize::from(y & 127)] = value;
+            self.0[usize::from(y & 127)][usize::from(x & 127)] = value;
+        }
+    }
+}

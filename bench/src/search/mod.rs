@@ -1,0 +1,45 @@
+//! The searches that are compared.
+mod layout;
+pub mod plain;
+pub mod tuned;
+
+use crate::records::{answered, refused};
+use lihumbay::raw::Numbers;
+
+/// How a search ended.
+#[derive(Clone, Copy, PartialEq, Eq)]
+pub enum End {
+    Met,
+    Cannot,
+    Full,
+}
+
+/// The answer of a search that wrote `count` records; a full store is zeroed.
+pub fn answer(end: End, records: &mut [[u8; 8]], count: usize) -> Numbers {
+    match end {
+        End::Met => answered(1, count as u32, 0),
+        End::Cannot => answered(2, count as u32, 0),
+        End::Full => {
+            records.fill([0; 8]);
+            refused(9, records.len())
+        }
+    }
+}
+
+pub type Search = fn(&[u8], &mut [u8], &mut [u8]) -> Numbers;
+
+/// The tuned search behind the tuned reader: like the product it refuses what isn't a sheet.
+fn tuned_checked(sheet: &[u8], grouping: &mut [u8], store: &mut [u8]) -> Numbers {
+    let reading = crate::read::tuned::read(sheet);
+    if reading.check != 0 {
+        return reading;
+    }
+    if grouping.len() < reading.first as usize {
+        return refused(8, reading.first as usize);
+    }
+    tuned::search(sheet, grouping, store)
+}
+
+/// The searches by name; the first is the product's.
+pub const ALL: [(&str, Search); 4] =
+    [("product", lihumbay::raw::search), ("plain", plain::search), ("tuned", tuned::search), ("tuned, checked", tuned_checked)];

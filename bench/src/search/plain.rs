@@ -1,0 +1,149 @@
+//! The search of document 01 word for word: each node looks at every condition from the first on, and gives each term its value by the node's classes and marks.
+//! It doesn't check the sheet.
+use crate::marks::Marks;
+use crate::records;
+use crate::search::{End, answer};
+use crate::terms::{self, Term};
+use lihumbay::raw::Numbers;
+
+/// The smallest lot of each lot's class. Lots count from 0 here.
+#[derive(Clone, Copy)]
+struct Classes([u8; 128]);
+
+impl Classes {
+    fn of(&self, lot: u8) -> u8 {
+        self.0[usize::from(lot & 127)]
+    }
+
+    fn joined(&self, a: u8, b: u8) -> Classes {
+        let (x, y) = (self.of(a), self.of(b));
+        Classes(self.0.map(|z| if z == x || z == y { x.min(y) } else { z }))
+    }
+}
+
+enum Value {
+    True,
+    False,
+    Open,
+}
+
+/// What the node rule makes of a node; a ground and a split name their condition, which counts from 0.
+enum Node {
+    Met,
+    Ground(usize),
+    Split(Term),
+}
+
+struct Search<'a> {
+    conditions: Vec<Vec<Term>>,
+    /// The pairs that the path sets apart.
+    apart: Vec<(u8, u8)>,
+    /// The marks of the node that is looked at; none between two nodes.
+    marks: Marks,
+    grouping: &'a mut [u8],
+    records: &'a mut [[u8; 8]],
+    count: usize,
+}
+
+impl Search<'_> {
+    fn value(&self, classes: &Classes, term: Term) -> Value {
+        let (x, y) = (classes.of(term.a), classes.of(term.b));
+        if x == y {
+            if term.same { Value::True } else { Value::False }
+        } else if self.marks.between(x, y) {
+            if term.same { Value::False } else { Value::True }
+        } else {
+            Value::Open
+        }
+    }
+
+    /// Whether a condition is taken; if so, its first open term.
+    fn first_open(&self, classes: &Classes, terms: &[Term]) -> Option<Option<Term>> {
+        let mut open = None;
+        for &term in terms {
+            match self.value(classes, term) {
+                Value::True => return None,
+                Value::Open if !term.same => return None,
+                Value::Open => open = open.or(Some(term)),
+                Value::False => {}
+            }
+        }
+        Some(open)
+    }
+
+    fn node(&self, classes: &Classes) -> Node {
+        for (c, terms) in self.conditions.iter().enumerate() {
+            match self.first_open(classes, terms) {
+                None => {}
+                Some(None) => return Node::Ground(c),
+                Some(Some(term)) => return Node::Split(term),
+            }
+        }
+        Node::Met
+    }
+
+    /// The node with the marks made for it.
+    fn marked_node(&mut self, classes: &Classes) -> Node {
+        self.marks.stamp(&classes.0, self.apart.iter().copied(), true);
+        let node = self.node(classes);
+        self.marks.stamp(&classes.0, self.apart.iter().copied(), false);
+        node
+    }
+
+    fn write(&mut self, record: [u8; 8]) {
+        self.records[self.count] = record;
+        self.count += 1;
+    }
+
+    fn visit(&mut self, classes: &Classes) -> End {
+        if self.count == self.records.len() {
+            return End::Full;
+        }
+        match self.marked_node(classes) {
+            Node::Met => {
+                self.write(records::met());
+                for (byte, smallest) in self.grouping.iter_mut().zip(classes.0) {
+                    *byte = smallest + 1;
+                }
+                End::Met
+            }
+            Node::Ground(c) => {
+                self.write(records::ground(c + 1));
+                End::Cannot
+            }
+            Node::Split(term) => self.branches(classes, term),
+        }
+    }
+
+    fn branches(&mut self, classes: &Classes, term: Term) -> End {
+        let here = self.count;
+        self.write(records::split(usize::from(term.a) + 1, usize::from(term.b) + 1));
+        let end = self.visit(&classes.joined(term.a, term.b));
+        if end != End::Cannot {
+            return end;
+        }
+        if self.count == self.records.len() {
+            return End::Full;
+        }
+        records::set_next(&mut self.records[here], self.count + 1);
+        self.apart.push((term.a, term.b));
+        let end = self.visit(classes);
+        self.apart.pop();
+        end
+    }
+}
+
+pub fn search(sheet: &[u8], grouping: &mut [u8], store: &mut [u8]) -> Numbers {
+    let (lots, conditions, _) = terms::header(sheet);
+    let mut search = Search {
+        conditions: (0..conditions).map(|c| terms::chain(sheet, c).collect()).collect(),
+        apart: Vec::new(),
+        marks: Marks::new(),
+        grouping: &mut grouping[..lots],
+        records: records::of_store(store),
+        count: 0,
+    };
+    let end = search.visit(&Classes(std::array::from_fn(|lot| lot as u8)));
+    let count = search.count;
+    answer(end, search.records, count)
+}

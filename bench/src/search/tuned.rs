@@ -1,0 +1,177 @@
+//! A tuned search with the same nodes: nothing is scanned again. A join looks up the terms between the two classes alone, by pairs of lots; the conditions that
+//! may be taken are sets of bits, whose lowest is the one taken; a mark is a bit; the apart branch goes on after the split's term; what a branch changed is
+//! changed back. It doesn't check the sheet.
+use crate::classes::{Classes, Join, lots_of};
+use crate::records;
+use crate::search::layout::{Conditions, Layout, insert, remove};
+use crate::search::{End, answer};
+use crate::terms;
+use lihumbay::raw::Numbers;
+
+/// A split on the path: its record and its term, which branch it is in, and what is needed to undo the same branch.
+struct Split {
+    record: usize,
+    term: usize,
+    condition: u8,
+    apart: bool,
+    trail: usize,
+    passed: Conditions,
+    join: Join,
+}
+
+struct Search<'a> {
+    layout: Layout,
+    classes: Classes,
+    /// The conditions with a "same" term whose lots share a class.
+    passed: Conditions,
+    /// The conditions all of whose "apart" terms share a class, the number of those that don't, and the conditions of those that came to share one, in order.
+    ready: Conditions,
+    left: [u16; 256],
+    trail: Vec<u8>,
+    path: Vec<Split>,
+    records: &'a mut [[u8; 8]],
+    count: usize,
+}
+
+impl Search<'_> {
+    /// The condition taken: the lowest without a term that is true or open and "apart".
+    #[inline]
+    fn taken(&self) -> Option<u8> {
+        for i in 0..4 {
+            let free = self.ready[i] & !self.passed[i];
+            if free != 0 {
+                return Some((64 * i) as u8 + free.trailing_zeros() as u8);
+            }
+        }
+        None
+    }
+
+    /// The first open term from a term on. In the taken condition no "apart" term is open and no "same" term is true, so that one which isn't marked is open.
+    #[inline]
+    fn first_open(&self, condition: u8, from: usize) -> Option<usize> {
+        let end = usize::from(self.layout.begins[usize::from(condition) + 1]);
+        let rest = self.layout.sames.get(from..end)?;
+        let open = rest.iter().position(|&(a, b)| !self.classes.marked(self.classes.of(a), self.classes.of(b)))?;
+        Some(from + open)
+    }
+
+    /// Two lots come to share a class: so do the terms over them.
+    #[inline]
+    fn share(&mut self, a: u8, b: u8) {
+        let pair = self.layout.pair(a, b);
+        for (passed, same) in self.passed.iter_mut().zip(pair.same) {
+            *passed |= same;
+        }
+        let mut at = pair.aparts;
+        while at != 0 {
+            let (condition, next) = self.layout.aparts[usize::from(at) - 1];
+            let left = &mut self.left[usize::from(condition)];
+            *left -= 1;
+            if *left == 0 {
+                insert(&mut self.ready, condition);
+            }
+            self.trail.push(condition);
+            at = next;
+        }
+    }
+
+    /// Joins the smaller class to the larger.
+    #[inline]
+    fn join(&mut self, a: u8, b: u8) -> Join {
+        let (x, y) = (self.classes.of(a), self.classes.of(b));
+        let (from, into) = self.classes.by_size(x, y);
+        let others = self.classes.members(into);
+        for lot in lots_of(self.classes.members(from)) {
+            for other in lots_of(self.layout.partners[usize::from(lot & 127)] & others) {
+                self.share(lot, other);
+            }
+        }
+        self.classes.join(from, into)
+    }
+
+    /// Undoes the same branch of a split.
+    #[inline]
+    fn undo(&mut self, join: Join, passed: Conditions, trail: usize) {
+        self.passed = passed;
+        while self.trail.len() > trail {
+            let Some(condition) = self.trail.pop() else { return };
+            remove(&mut self.ready, condition);
+            self.left[usize::from(condition)] += 1;
+        }
+        self.classes.undo(join);
+    }
+
+    /// Back to the nearest split still in its same branch, which goes over to its apart branch: the condition and the term where that goes on.
+    fn turn(&mut self) -> Option<(u8, usize)> {
+        while let Some(split) = self.path.last_mut() {
+            let (a, b) = self.layout.sames[split.term];
+            if split.apart {
+                // The pair was open, so both its marks were new.
+                self.classes.undo_apart(a, b, (true, true));
+                self.path.pop();
+                continue;
+            }
+            split.apart = true;
+            let after = (split.condition, split.term + 1);
+            if self.count < self.records.len() {
+                records::set_next(&mut self.records[split.record], self.count + 1);
+            }
+            let (join, passed, trail) = (split.join, split.passed, split.trail);
+            self.undo(join, passed, trail);
+            self.classes.set_apart(a, b);
+            return Some(after);
+        }
+        None
+    }
+
+    fn split(&mut self, condition: u8, term: usize) {
+        let (a, b) = self.layout.sames[term];
+        self.records[self.count] = records::split(usize::from(a) + 1, usize::from(b) + 1);
+        let (record, trail, passed) = (self.count, self.trail.len(), self.passed);
+        let join = self.join(a, b);
+        self.path.push(Split { record, term, condition, apart: false, trail, passed, join });
+        self.count += 1;
+    }
+
+    fn run(&mut self) -> End {
+        let mut resumed = None;
+        loop {
+            if self.count == self.records.len() {
+                return End::Full;
+            }
+            let taken = || self.taken().map(|c| (c, usize::from(self.layout.begins[usize::from(c)])));
+            let Some((condition, from)) = resumed.take().or_else(taken) else {
+                self.records[self.count] = records::met();
+                self.count += 1;
+                return End::Met;
+            };
+            if let Some(term) = self.first_open(condition, from) {
+                self.split(condition, term);
+                continue;
+            }
+            self.records[self.count] = records::ground(usize::from(condition) + 1);
+            self.count += 1;
+            resumed = self.turn();
+            if resumed.is_none() {
+                return End::Cannot;
+            }
+        }
+    }
+}
+
+pub fn search(sheet: &[u8], grouping: &mut [u8], store: &mut [u8]) -> Numbers {
+    let layout = Layout::of(sheet);
+    let (passed, ready, left) = (layout.passed, layout.ready, layout.left);
+    let records = records::of_store(store);
+    let (trail, path) = (Vec::with_capacity(layout.aparts.len()), Vec::with_capacity(64));
+    let mut search = Search { layout, classes: Classes::new(), passed, ready, left, trail, path, records, count: 0 };
+    let end = search.run();
+    if end == End::Met {
+        let (lots, _, _) = terms::header(sheet);
+        for (lot, byte) in grouping[..lots].iter_mut().enumerate() {
+            *byte = search.classes.smallest(lot as u8) + 1;
+        }
+    }
+    let count = search.count;
+    answer(end, search.records, count)
+}

@@ -1,0 +1,77 @@
+//! How much stack a call takes on the longest path that a sheet can have, 1,024 splits: it runs on a painted stack of 8 MB, and what was painted over is counted.
+use crate::jobs::Buffers;
+use crate::records::answered;
+use crate::{check, families, lists, search};
+use std::alloc::{Layout, alloc, dealloc};
+use std::ffi::c_void;
+use std::hint::black_box;
+use std::ptr;
+
+const SIZE: usize = 8 << 20;
+const PAINT: u8 = 0xA5;
+
+/// At least as large, and as aligned, as the C library's own.
+#[repr(C, align(16))]
+struct Attributes([u64; 16]);
+
+type Body = extern "C" fn(*mut c_void) -> *mut c_void;
+
+unsafe extern "C" {
+    fn pthread_attr_init(attributes: *mut Attributes) -> i32;
+    fn pthread_attr_setstack(attributes: *mut Attributes, stack: *mut c_void, size: usize) -> i32;
+    fn pthread_create(thread: *mut usize, attributes: *const Attributes, body: Body, argument: *mut c_void) -> i32;
+    fn pthread_join(thread: usize, result: *mut *mut c_void) -> i32;
+}
+
+/// What runs on the painted stack.
+struct Call<'a>(&'a mut dyn FnMut());
+
+extern "C" fn body(argument: *mut c_void) -> *mut c_void {
+    // SAFETY: `used` hands over a `Call` that it doesn't touch until the thread has ended.
+    let call = unsafe { &mut *argument.cast::<Call>() };
+    (call.0)();
+    ptr::null_mut()
+}
+
+/// The bytes from the top of the stack down to the lowest that was written.
+fn used(call: &mut dyn FnMut()) -> usize {
+    let layout = Layout::from_size_align(SIZE, 4096).expect("a layout");
+    let (mut attributes, mut thread, mut call) = (Attributes([0; 16]), 0, Call(call));
+    // SAFETY: the stack is ours, page-aligned and large enough, and is given back only when the thread has ended; so is the call.
+    unsafe {
+        let stack = alloc(layout);
+        assert!(!stack.is_null(), "no memory for a stack");
+        stack.write_bytes(PAINT, SIZE);
+        assert!(pthread_attr_init(&mut attributes) == 0 && pthread_attr_setstack(&mut attributes, stack.cast(), SIZE) == 0);
+        assert!(pthread_create(&mut thread, &attributes, body, (&raw mut call).cast()) == 0 && pthread_join(thread, ptr::null_mut()) == 0);
+        let untouched = (0..SIZE).take_while(|&i| *stack.add(i) == PAINT).count();
+        dealloc(stack, layout);
+        SIZE - untouched
+    }
+}
+
+/// The stack of each search and each checker, by name.
+pub fn all() -> Vec<(String, usize)> {
+    let thread = used(&mut || {});
+    let sheet = families::deep(1024).bytes();
+    let list = lists::deep(127);
+    let mut rows = Vec::new();
+    for (name, search) in search::ALL {
+        let mut buffers = Buffers::new();
+        let bytes = used(&mut || assert!(search(&sheet, &mut buffers.grouping, &mut buffers.store) == answered(2, 2049, 0)));
+        rows.push((format!("search, {name}"), bytes - thread));
+    }
+    for (name, check) in check::ALL {
+        rows.push((format!("check, {name}"), used(&mut || assert!(check(&sheet, &list).check == 0)) - thread));
+    }
+    rows
+}
+
+/// The product's search and check once on the program's own stack, so that a limit set by the shell is tried.
+pub fn on_own() {
+    let (sheet, list) = (families::deep(1024).bytes(), lists::deep(127));
+    let mut buffers = Buffers::new();
+    assert!(search::ALL[0].1(&sheet, &mut buffers.grouping, &mut buffers.store) == answered(2, 2049, 0));
+    black_box(&buffers);
+    assert!(check::ALL[0].1(&sheet, &list).check == 0);
+}
