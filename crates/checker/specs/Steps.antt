@@ -1,13 +1,13 @@
 -- The steps of the walk, for the contracts of the code; this file states nothing of document 01.
-use Prim.Native.Nat.{ℕ, _*_, _≤_}
+use Prim.Native.Nat.{ℕ}
 use mathlib.Core.Bool.{Bool, true, false}
 use mathlib.Core.List.{List, [], _∷_}
-use lib.ListN.{length}
 use Rattle.sheet.specs.declared.Verdict as verdicts
 use Rattle.sheet.specs.declared.Verdict.the-variants as verdict
 use Rattle.store.specs.Records.{NodeRecord}
-use Rattle.refutation.specs.Refutation.{Split, mostSplits}
-use Rattle.path.specs.Paths.{splitLength, pathOf, PathWithin}
+use Rattle.refutation.specs.Refutation.{Split}
+use Rattle.path.specs.Paths.{pathOf}
+use Rattle.levels.specs.Levels.{Walkable}
 use Rattle.checker.specs.declared.Step.{Step}
 use Rattle.checker.specs.declared.Step.the-variants.{On, Passes, Refuses}
 
@@ -30,14 +30,8 @@ abbrev pub noneLeft : Rest → Bool
 noneLeft [] = true
 noneLeft (r ∷ rest) = false
 
--- A path of at most so many splits as a list may have, with room for them.
-pub record Walkable (path : List ℕ) (depth : ℕ) : Type 0 where
-  pub within : PathWithin path depth
-  pub deep : depth ≤ mostSplits
-  pub room : splitLength * mostSplits ≤ length path
-
--- Where the walk goes on, its path is one.
-abbrev pub GoesOn : List ℕ → Step → Type 0
-GoesOn path (On depth) = Walkable path depth
-GoesOn path Passes = Unit {0}
-GoesOn path (Refuses check place) = Unit {0}
+-- Where the walk goes on, its path is one, and the levels are those of its splits.
+abbrev pub GoesOn : List ℕ → List ℕ → List ℕ → Step → Type 0
+GoesOn path maps levels (On depth) = Walkable path maps levels depth
+GoesOn path maps levels Passes = Unit {0}
+GoesOn path maps levels (Refuses check place) = Unit {0}

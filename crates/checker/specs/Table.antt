@@ -9,6 +9,7 @@ use Rattle.sheet.specs.Format.{mostLots, conditionCount}
 use Rattle.sheet.specs.Checks.{Accepted}
 use Rattle.sheet.specs.Conditions.{Term, same, apart}
 use Rattle.equality.specs.Node.{Decisions, classOf}
+use Rattle.levels.specs.Levels.{entries}
 
 -- A row has a cell for each number that a class can have, 0 included; and so many rows has a table.
 abbrev pub rowLength : ℕ
@@ -39,6 +40,11 @@ stamped value cs (apart a b ∷ ds) table = stampClasses value (classOf cs a) (c
 abbrev pub ClassesWithin : List ℕ → Type 0
 ClassesWithin cs = (lot : ℕ) → lot ≤ mostLots → classOf cs lot ≤ mostLots
 
+-- A class map: an entry for each number that a lot can have, and each lot's class is a lot.
+pub record ClassMap (cs : List ℕ) : Type 0 where
+  pub size : length cs ≡ entries
+  pub within : ClassesWithin cs
+
 -- A term is not false, by the classes x and y of its lots and a table of marks: a "same" term whose lots share a class or whose classes are not marked, an
 -- "apart" term whose lots share none.
 abbrev pub mayHoldBy : List ℕ → Bool → ℕ → ℕ → Bool
@@ -47,11 +53,6 @@ mayHoldBy table isSame x y = cond isSame (eqb x y || not (eqb (getD table (cell 
 abbrev pub mayHold : List ℕ → List ℕ → Term → Bool
 mayHold cs table (same a b) = mayHoldBy table true (classOf cs a) (classOf cs b)
 mayHold cs table (apart a b) = mayHoldBy table false (classOf cs a) (classOf cs b)
-
--- The classes are of lots, and the table has its size.
-pub record Examinable (cs table : List ℕ) : Type 0 where
-  pub within : ClassesWithin cs
-  pub size : length table ≡ tableLength
 
 -- The sheet is accepted, and has m conditions.
 pub record Checkable (s : List ℕ) (m : ℕ) : Type 0 where

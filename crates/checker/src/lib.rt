@@ -13,10 +13,10 @@ ghost use Rattle.store.specs.Records.{splitRecord, groundRecord, recordAt, reco
 ghost use Rattle.store.specs.Code.{HasPlace};
 ghost use Rattle.refutation.specs.Refutation.{decisionsOf, groundFails, nearest, afterGround, named, walkRecord, walkVerdict, checkAnswer};
 ghost use Rattle.path.specs.Paths.{pathOf, PathWithin};
+ghost use Rattle.levels.specs.Levels.{Walkable};
 ghost use Rattle.checker.specs.Answers.{checkedAnswer, PassedExactly, PassedMeans};
-ghost use Rattle.checker.specs.Steps.{Rest, WalkRest, stepAs, noneLeft, Walkable, GoesOn};
-ghost use Rattle.checker.specs.Table.{tableLength, Unmarked, stamped, ClassesWithin, mayHold, mayHoldBy, Checkable, Examinable};
-use classes::Classes;
+ghost use Rattle.checker.specs.Steps.{Rest, WalkRest, stepAs, noneLeft, GoesOn};
+ghost use Rattle.checker.specs.Table.{tableLength, Unmarked, stamped, ClassMap, mayHold, mayHoldBy, Checkable};
 use sheet::Condition;
 use sheet::Lot;
 use sheet::Reading;
@@ -28,10 +28,12 @@ use store::NodeRecord;
 // The cells of a row of the table of marks: one for each number that a class can have, 0 included.
 const ROW_LENGTH: usize = 129;
 
-// The numbers of the longest path, and the cells of the table.
-const PATH_LENGTH: usize = 5120;
+// The numbers of the longest path, the levels under its splits and above them all, and the cells of the table.
+const PATH_LENGTH: usize = path::SPLIT_LENGTH * MOST_SPLITS;
 
-const TABLE_LENGTH: usize = 16641;
+const LEVELS_LENGTH: usize = MOST_SPLITS + 1;
+
+const TABLE_LENGTH: usize = ROW_LENGTH * ROW_LENGTH;
 
 // The checker's answer.
 pub enum CheckAnswer {
@@ -49,12 +51,14 @@ pub enum Step {
 // The most splits above a record.
 const MOST_SPLITS: usize = 1024;
 
+// The sign of a "same" term.
+const SAME: u8 = 1;
+
 // Stamps a value on the two cells of each pair of the path that is set apart, by the classes of its lots.
-fn stamp(table: &mut [u8], path: &[u32], depth: usize, map: Classes, value: u8)
-    requires { ⌜ (length (now table) ≡ tableLength) × PathWithin (now path) depth × ClassesWithin (map .lots) ⌝ }
-    ensures { λ _. ⌜ now (table .exit) ≡ stamped value (map .lots) (decisionsOf (pathOf (now (path .entry)) depth)) (now (table .entry)) ⌝ }
+fn stamp(table: &mut [u8], path: &[u32], depth: usize, lots: &[u8], value: u8)
+    requires { ⌜ (length (now table) ≡ tableLength) × PathWithin (now path) depth × ClassMap (now lots) ⌝ }
+    ensures { λ _. ⌜ now (table .exit) ≡ stamped value (now (lots .entry)) (decisionsOf (pathOf (now (path .entry)) depth)) (now (table .entry)) ⌝ }
 {
-    let lots = map.lots;
     let mut i: usize = 0;
     while i < depth {
         let pair = path::pair_at(path, i);
@@ -75,19 +79,18 @@ fn may_hold(table: &[u8], sign: u8, x: u8, y: u8) -> bool
     requires { ⌜ (length (now table) ≡ tableLength) × (x ≤ mostLots) × (y ≤ mostLots) ⌝ }
     ensures { λ r. ⌜ r ≡ mayHoldBy (now (table .entry)) (eqb sign 1) x y ⌝ }
 {
-    if sign == 1 {
+    if sign == SAME {
         x == y || table[ROW_LENGTH * (x as usize) + (y as usize)] != 1
     } else {
         x != y
     }
 }
 
-// Whether every term of the chain from a record on is false. The map's array is read in place: a method that hands the map back would copy it for each term.
-fn all_false(sheet: &[u8], m: u16, map: Classes, table: &[u8], head: Record) -> bool
-    requires { ⌜ Checkable (now sheet) m × Examinable (map .lots) (now table) × (head .0 ≤ recordCount (now sheet)) ⌝ }
-    ensures { λ r. ⌜ r ≡ not (someTerm (mayHold (map .lots) (now (table .entry))) (termsFrom (now (sheet .entry)) (head .0))) ⌝ }
+// Whether every term of the chain from a record on is false.
+fn all_false(sheet: &[u8], m: u16, lots: &[u8], table: &[u8], head: Record) -> bool
+    requires { ⌜ Checkable (now sheet) m × ClassMap (now lots) × (length (now table) ≡ tableLength) × (head .0 ≤ recordCount (now sheet)) ⌝ }
+    ensures { λ r. ⌜ r ≡ not (someTerm (mayHold (now (lots .entry)) (now (table .entry))) (termsFrom (now (sheet .entry)) (head .0))) ⌝ }
 {
-    let lots = map.lots;
     let mut at = head;
     while at.0 != 0 {
         let t = sheet::format::term_at(sheet, m, at);
@@ -101,34 +104,64 @@ fn all_false(sheet: &[u8], m: u16, map: Classes, table: &[u8], head: Record) -> 
     true
 }
 
-// Whether every term of a condition is false under the path. The pairs that the path sets apart are marked in the table for the test alone: it costs the
-// path's splits and the condition's terms, not their product.
+// The first record of the chain whose term is not an "apart" term that is false, or 0. An "apart" term is false exactly if its lots share a class: no mark
+// decides it.
+fn past_apart(sheet: &[u8], m: u16, lots: &[u8], head: Record) -> Record
+    requires { ⌜ Checkable (now sheet) m × ClassMap (now lots) × (head .0 ≤ recordCount (now sheet)) ⌝ }
+    ensures within { λ r. ⌜ r .0 ≤ recordCount (now (sheet .entry)) ⌝ }
+    ensures rest { λ r. ⌜ ((table : List ℕ) → someTerm (mayHold (now (lots .entry)) table) (termsFrom (now (sheet .entry)) (head .0))
+        ≡ someTerm (mayHold (now (lots .entry)) table) (termsFrom (now (sheet .entry)) (r .0))) ⌝ }
+{
+    let mut at = head;
+    while at.0 != 0 {
+        let t = sheet::format::term_at(sheet, m, at);
+        if t.sign == SAME {
+            return at;
+        }
+        let a = t.a.0 as usize;
+        let b = t.b.0 as usize;
+        if lots[a] != lots[b] {
+            return at;
+        }
+        at = t.next;
+    }
+    at
+}
+
+// Whether every term of a condition is false under the path. The pairs that the path sets apart are marked in the table for the test alone, from the first
+// term on that a mark may decide: it costs the condition's terms and, with such a term, the path's splits, not their product.
 fn ground_holds(
     sheet: &[u8],
     m: u16,
     path: &[u32],
     depth: usize,
+    maps: &[u8],
+    levels: &[u8],
     table: &mut [u8],
     c: Condition,
 ) -> bool
-    requires { ⌜ Checkable (now sheet) m × (1 ≤ c .0) × (c .0 ≤ m) × PathWithin (now path) depth × Unmarked (now table) ⌝ }
+    requires { ⌜ Checkable (now sheet) m × (1 ≤ c .0) × (c .0 ≤ m) × Walkable (now path) (now maps) (now levels) depth × Unmarked (now table) ⌝ }
     ensures holds { λ r. ⌜ r ≡ not (groundFails (decisionsOf (pathOf (now (path .entry)) depth)) (named (now (sheet .entry)) (c .0))) ⌝ }
     ensures table { λ r. ⌜ Unmarked (now (table .exit)) ⌝ }
 {
-    let map = path::classes_of(path, depth);
+    let lots = levels::top(maps, levels, depth);
     let head = sheet::format::head_at(sheet, c);
-    stamp(table, path, depth, map, 1);
-    let holds = all_false(sheet, m, map, table, head);
-    stamp(table, path, depth, map, 0);
+    let at = past_apart(sheet, m, lots, head);
+    if at.0 == 0 {
+        return true;
+    }
+    stamp(table, path, depth, lots, 1);
+    let holds = all_false(sheet, m, lots, table, at);
+    stamp(table, path, depth, lots, 0);
     holds
 }
 
 // After a ground, at record r: the nearest split still in its same branch is turned, if its next is the following record; with no such split the list must end.
-fn after_ground(path: &mut [u32], depth: usize, r: u32, last: bool) -> Step
-    requires { ⌜ Walkable (now path) depth × (r ≤ mostNodes) ⌝ }
+fn after_ground(path: &mut [u32], depth: usize, levels: &mut [u8], r: u32, last: bool) -> Step
+    requires { ⌜ ((maps : List ℕ) × Walkable (now path) maps (now levels) depth) × (r ≤ mostNodes) ⌝ }
     ensures walk { λ v. ⌜ ((walkRest : WalkRest) (rest : Rest) → last ≡ noneLeft rest
         → afterGround walkRest rest (r + 1) (nearest (pathOf (now (path .entry)) depth)) ≡ stepAs walkRest (r + 1) (now (path .exit)) v) ⌝ }
-    ensures path { λ v. ⌜ GoesOn (now (path .exit)) v ⌝ }
+    ensures path { λ v. ⌜ ((maps : List ℕ) → Walkable (now (path .entry)) maps (now (levels .entry)) depth → GoesOn (now (path .exit)) maps (now (levels .exit)) v) ⌝ }
 {
     let top = path::nearest(path, depth);
     if top == 0 {
@@ -143,7 +176,7 @@ fn after_ground(path: &mut [u32], depth: usize, r: u32, last: bool) -> Step
         let number = path::number_of(path, top);
         return Step::Refuses(13, number.0);
     }
-    path::turn(path, top);
+    levels::turn(path, top, levels);
     Step::On(top)
 }
 
@@ -158,16 +191,18 @@ fn in_lots(n: u16, lot: Lot) -> bool
 fn split_step(
     path: &mut [u32],
     depth: usize,
+    maps: &mut [u8],
+    levels: &mut [u8],
     n: u16,
     r: u32,
     a: Lot,
     b: Lot,
     next: NodeNumber,
 ) -> Step
-    requires { ⌜ Walkable (now path) depth × (n ≤ mostLots) ⌝ }
+    requires { ⌜ Walkable (now path) (now maps) (now levels) depth × (n ≤ mostLots) ⌝ }
     ensures walk { λ v. ⌜ ((s : List ℕ) → n ≡ lotCount s → (walkRest : WalkRest) (rest : Rest)
         → walkRecord s walkRest rest r (pathOf (now (path .entry)) depth) (splitRecord (a .0) (b .0) (next .0)) ≡ stepAs walkRest (r + 1) (now (path .exit)) v) ⌝ }
-    ensures path { λ v. ⌜ GoesOn (now (path .exit)) v ⌝ }
+    ensures path { λ v. ⌜ GoesOn (now (path .exit)) (now (maps .exit)) (now (levels .exit)) v ⌝ }
 {
     if !in_lots(n, a) {
         return Step::Refuses(11, r);
@@ -184,7 +219,7 @@ fn split_step(
         a,
         b,
     };
-    Step::On(path::push(path, depth, split))
+    Step::On(levels::push(path, depth, maps, levels, split))
 }
 
 // A ground at record r: its condition, the condition's terms under the path, and what follows.
@@ -193,24 +228,26 @@ fn ground_step(
     m: u16,
     path: &mut [u32],
     depth: usize,
+    maps: &[u8],
+    levels: &mut [u8],
     table: &mut [u8],
     r: u32,
     last: bool,
     c: Condition,
 ) -> Step
-    requires { ⌜ Checkable (now sheet) m × Walkable (now path) depth × (r ≤ mostNodes) × Unmarked (now table) ⌝ }
+    requires { ⌜ Checkable (now sheet) m × Walkable (now path) (now maps) (now levels) depth × (r ≤ mostNodes) × Unmarked (now table) ⌝ }
     ensures walk { λ v. ⌜ ((walkRest : WalkRest) (rest : Rest) → last ≡ noneLeft rest
         → walkRecord (now (sheet .entry)) walkRest rest r (pathOf (now (path .entry)) depth) (groundRecord (c .0)) ≡ stepAs walkRest (r + 1) (now (path .exit)) v) ⌝ }
-    ensures path { λ v. ⌜ GoesOn (now (path .exit)) v ⌝ }
+    ensures path { λ v. ⌜ GoesOn (now (path .exit)) (now (maps .entry)) (now (levels .exit)) v ⌝ }
     ensures table { λ v. ⌜ Unmarked (now (table .exit)) ⌝ }
 {
     if c.0 == 0 || m < c.0 {
         return Step::Refuses(11, r);
     }
-    if !ground_holds(sheet, m, path, depth, table, c) {
+    if !ground_holds(sheet, m, path, depth, maps, levels, table, c) {
         return Step::Refuses(12, r);
     }
-    after_ground(path, depth, r, last)
+    after_ground(path, depth, levels, r, last)
 }
 
 // Record r of the list, whichever it is.
@@ -221,35 +258,69 @@ fn record_step(
     list: &[u8],
     path: &mut [u32],
     depth: usize,
+    maps: &mut [u8],
+    levels: &mut [u8],
     table: &mut [u8],
     r: u32,
     last: bool,
 ) -> Step
-    requires { ⌜ Checkable (now sheet) m × (n ≡ lotCount (now sheet)) × HasPlace (now list) r × Walkable (now path) depth × (r ≤ mostNodes) × Unmarked (now table) ⌝ }
+    requires { ⌜ Checkable (now sheet) m × (n ≡ lotCount (now sheet)) × HasPlace (now list) r × Walkable (now path) (now maps) (now levels) depth × (r ≤ mostNodes) × Unmarked (now table) ⌝ }
     ensures walk { λ v. ⌜ ((walkRest : WalkRest) (rest : Rest) → last ≡ noneLeft rest
         → walkRecord (now (sheet .entry)) walkRest rest r (pathOf (now (path .entry)) depth) (recordAt (now (list .entry)) r) ≡ stepAs walkRest (r + 1) (now (path .exit)) v) ⌝ }
-    ensures path { λ v. ⌜ GoesOn (now (path .exit)) v ⌝ }
+    ensures path { λ v. ⌜ GoesOn (now (path .exit)) (now (maps .exit)) (now (levels .exit)) v ⌝ }
     ensures table { λ v. ⌜ Unmarked (now (table .exit)) ⌝ }
 {
     let node = store::read(list, NodeNumber(r));
     match node {
-        NodeRecord::Split(a, b, next) => split_step(path, depth, n, r, a, b, next),
-        NodeRecord::Ground(c) => ground_step(sheet, m, path, depth, table, r, last, c),
+        NodeRecord::Split(a, b, next) => split_step(path, depth, maps, levels, n, r, a, b, next),
+        NodeRecord::Ground(c) => ground_step(
+            sheet,
+            m,
+            path,
+            depth,
+            maps,
+            levels,
+            table,
+            r,
+            last,
+            c,
+        ),
         NodeRecord::Met => Step::Refuses(11, r),
         NodeRecord::Other => Step::Refuses(11, r),
     }
 }
 
 // The walk over the list, from record 1.
-fn walk(sheet: &[u8], n: u16, m: u16, list: &[u8], path: &mut [u32], table: &mut [u8]) -> Verdict
-    requires { ⌜ Checkable (now sheet) m × (n ≡ lotCount (now sheet)) × (length (now list) / recordLength ≤ mostNodes) × Walkable (now path) 0 × Unmarked (now table) ⌝ }
+fn walk(
+    sheet: &[u8],
+    n: u16,
+    m: u16,
+    list: &[u8],
+    path: &mut [u32],
+    maps: &mut [u8],
+    levels: &mut [u8],
+    table: &mut [u8],
+) -> Verdict
+    requires { ⌜ Checkable (now sheet) m × (n ≡ lotCount (now sheet)) × (length (now list) / recordLength ≤ mostNodes) × Walkable (now path) (now maps) (now levels) 0 × Unmarked (now table) ⌝ }
     ensures { λ v. ⌜ v ≡ walkVerdict (now (sheet .entry)) (now (list .entry)) ⌝ }
 {
     let count = (list.len() / store::RECORD_LENGTH) as u32;
     let mut depth: usize = 0;
     let mut r: u32 = 1;
     while r <= count {
-        let step = record_step(sheet, n, m, list, path, depth, table, r, r == count);
+        let step = record_step(
+            sheet,
+            n,
+            m,
+            list,
+            path,
+            depth,
+            maps,
+            levels,
+            table,
+            r,
+            r == count,
+        );
         match step {
             Step::Passes => return Verdict::Passes,
             Step::Refuses(check, place) => return Verdict::Refuses(check, place),
@@ -262,14 +333,26 @@ fn walk(sheet: &[u8], n: u16, m: u16, list: &[u8], path: &mut [u32], table: &mut
     Verdict::Refuses(14, r)
 }
 
-// The verdict on a list, with a path and a table of its own.
+// The verdict on a list, with a path, its classes and a table of its own.
 fn check_list(sheet: &[u8], n: u16, m: u16, list: &[u8]) -> Verdict
     requires { ⌜ Checkable (now sheet) m × (n ≡ lotCount (now sheet)) × (length (now list) / recordLength ≤ mostNodes) ⌝ }
     ensures { λ v. ⌜ v ≡ walkVerdict (now (sheet .entry)) (now (list .entry)) ⌝ }
 {
     let mut path = [0u32; PATH_LENGTH];
+    let mut maps = [0u8; levels::MAPS_LENGTH];
+    let mut levels = [0u8; LEVELS_LENGTH];
     let mut table = [0u8; TABLE_LENGTH];
-    walk(sheet, n, m, list, &mut path, &mut table)
+    levels::start(&mut maps);
+    walk(
+        sheet,
+        n,
+        m,
+        list,
+        &mut path,
+        &mut maps,
+        &mut levels,
+        &mut table,
+    )
 }
 
 // Whether a list's length is none that a list of records can have.

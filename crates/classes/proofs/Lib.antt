@@ -1,3 +1,4 @@
 pub mod Path
 mod Rewriting
 mod Marks
+pub mod Joins

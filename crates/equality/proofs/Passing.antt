@@ -10,7 +10,7 @@ use Rattle.sheet.proofs.Ranges.{All}
 use Rattle.sheet.proofs.Accepted.{sound}
 use Rattle.sheet.proofs.ChainEnds.{terms-end, terms-step}
 use Rattle.equality.specs.Meaning.{someTerm}
-use Rattle.equality.proofs.Some.{some-here, some-false}
+use Rattle.equality.proofs.Some.{some-here, some-false, some-past}
 
 -- Of the chain from `head` on, the test is false of the terms before record `at`.
 pub record Passing (q : Term → Bool) (s : List ℕ) (head at : ℕ) : Type 0 where
@@ -50,3 +50,7 @@ module _ (q : Term → Bool) (s : List ℕ) (ok : Accepted s) (head at : ℕ) (l
       let whole : termsFrom s head ≡ l .passed =
       l .place ∙ ap (λ (r : ℕ). l .passed ++ termsFrom s r) e ∙ ap (λ (ts : List Term). l .passed ++ ts) (terms-end s) ∙ append-nil (l .passed) in
       rw whole (some-false q (l .passed) (l .falses))
+
+  -- What is left decides.
+  pub left-decides : someTerm q (termsFrom s head) ≡ someTerm q (termsFrom s at)
+  left-decides = rw (l .place) (some-past q (l .passed) (termsFrom s at) (l .falses))

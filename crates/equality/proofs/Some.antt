@@ -2,7 +2,7 @@
 use mathlib.Core.Bool.{Bool, true, false, _||_, or-true, false≢true}
 use mathlib.Core.List.{List, [], _∷_, _++_}
 use mathlib.Core.Logic.{⊎-elim}
-use mathlib.Core.Path.{_≡_, refl, sym, ap, ap₂, fun-ext}
+use mathlib.Core.Path.{_≡_, refl, sym, ap, ap₂, fun-ext, _∙_}
 use lib.Dec.{T}
 use Rattle.sheet.specs.Conditions.{Term}
 use Rattle.sheet.proofs.Ranges.{All}
@@ -27,6 +27,20 @@ pub some-false : (q : Term → Bool) (ts : List Term) → All (λ t. q t ≡ fal
 unfolding someTerm
 some-false q [] none = refl
 some-false q (t ∷ ts) none = rw (none .0) (any-false q ts (none .1))
+
+-- Past terms that are not such, those that follow decide, and where none follows there is none.
+any-past : (q : Term → Bool) (before after : List Term) → All (λ t. q t ≡ false) before → anyTerm q (before ++ after) ≡ anyTerm q after
+unfolding anyTerm
+any-past q [] after none = refl
+any-past q (t ∷ before) after none = rw (none .0) (any-past q before after (none .1))
+
+any-some : (q : Term → Bool) (ts : List Term) → anyTerm q ts ≡ someTerm q ts
+unfolding anyTerm someTerm
+any-some q [] = refl
+any-some q (t ∷ ts) = refl
+
+pub some-past : (q : Term → Bool) (before after : List Term) → All (λ t. q t ≡ false) before → someTerm q (before ++ after) ≡ someTerm q after
+some-past q before after none = sym (any-some q (before ++ after)) ∙ any-past q before after none ∙ any-some q after
 
 module _ (p : Term → Bool) where
   any-none : (ts : List Term) → anyTerm p ts ≡ false → All (λ t. p t ≡ false) ts

@@ -5,11 +5,9 @@ ghost use mathlib.Core.List.{_∷_};
 ghost use Prim.Native.Nat.{_+_, _*_, _-_, _≤_, _<_};
 ghost use lib.ListN.{length};
 ghost use Rattle.sheet.specs.Format.{mostLots};
-ghost use Rattle.equality.specs.Node.{classes};
-ghost use Rattle.refutation.specs.Refutation.{decisionsOf, nearest, turned};
+ghost use Rattle.refutation.specs.Refutation.{nearest, turned};
 ghost use Rattle.path.specs.Paths.{splitLength, splitIn, firstLotIn, secondLotIn, pathOf, PathWithin, nearestAs, splitOf, decisionOf};
 ghost use Rattle.path.specs.Paths.{pushedAt, turnedAt, pushedPath, turnedPath, droppedPath};
-use classes::Classes;
 use sheet::Lot;
 use store::NodeNumber;
 
@@ -181,24 +179,4 @@ pub fn pair_at(path: &[u32], i: usize) -> Pair
         a: Lot(path[at + 3] as u16),
         b: Lot(path[at + 4] as u16),
     }
-}
-
-// The classes of the path: each split in its same branch joins its lots, from the root on. A pair that shares a class already is passed by, so that only
-// the joins that still join something cost a walk over the map.
-pub fn classes_of(path: &[u32], depth: usize) -> Classes
-    requires { ⌜ PathWithin (now path) depth ⌝ }
-    ensures { λ r. ⌜ r .lots ≡ classes (decisionsOf (pathOf (now (path .entry)) depth)) ⌝ }
-{
-    let mut map = Classes::new();
-    let mut i: usize = 0;
-    while i < depth {
-        let pair = pair_at(path, i);
-        let a = pair.a.0 as usize;
-        let b = pair.b.0 as usize;
-        if pair.same && map.lots[a] != map.lots[b] {
-            map = map.join(pair.a, pair.b);
-        }
-        i += 1;
-    }
-    map
 }

@@ -1,11 +1,17 @@
--- `checker::check_list`: no splits and no marks to begin with.
+-- `checker::check_list`: no splits, every lot alone, and no marks to begin with.
 use borrow.Author.Needs.{needs}
 use mathlib.Core.Path.{refl}
 use native.Mathlib.Omega.{arith}
-use Rattle.path.proofs.Within.{within-none}
+use Rattle.levels.proofs.Leveling.{walkable-none}
 use Rattle.checker.proofs.Marks.{zeros}
 use Rattle.checker.proofs.check_list.Statement.{statement}
 use Rattle.checker.proofs.check_list.Tie as tie
+
+slice-aggregate-start : tie.Need-slice-aggregate-start
+slice-aggregate-start c = search needs
+
+start-requires : tie.Need-start-requires
+start-requires c κs = search needs
 
 slice-aggregate-walk : tie.Need-slice-aggregate-walk
 slice-aggregate-walk c = search needs
@@ -13,14 +19,30 @@ slice-aggregate-walk c = search needs
 slice-aggregate-walk-2 : tie.Need-slice-aggregate-walk-2
 slice-aggregate-walk-2 c = search needs
 
+slice-aggregate-walk-3 : tie.Need-slice-aggregate-walk-3
+slice-aggregate-walk-3 c = search needs
+
+slice-aggregate-walk-4 : tie.Need-slice-aggregate-walk-4
+slice-aggregate-walk-4 c = search needs
+
 walk-requires : tie.Need-walk-requires
 walk-requires c κs =
-    let start = c .before .before .before .before in
-    (start .pre .0, start .pre .1, start .pre .2, record { within = within-none _; deep = omega arith; room = omega arith }, record { size = refl; zeros = zeros 16641 })
+    let start = c .before .before .before .before .before .before .before .before .before in
+    let first = c .before .before .before .before .before .start in
+    (start .pre .0, start .pre .1, start .pre .2, walkable-none _ _ _ (omega arith) (first .kept .0) (omega arith) refl (first .ensures), record { size = refl; zeros = zeros 16641 })
 
 returns : tie.Need-returns
 returns c = search needs
 
 pub check-list-spec : {M : Type 1} → statement M
 check-list-spec =
-    tie.close (tie.spec slice-aggregate-walk slice-aggregate-walk-2 walk-requires returns)
+    tie.close
+    (tie.spec
+    slice-aggregate-start
+    start-requires
+    slice-aggregate-walk
+    slice-aggregate-walk-2
+    slice-aggregate-walk-3
+    slice-aggregate-walk-4
+    walk-requires
+    returns)

@@ -1,77 +1,116 @@
--- `checker::ground_holds`: the table is stamped with 1, the terms are tested by it, and stamped with 0 it has no marks again.
+-- `checker::ground_holds`: past the terms that no mark decides, the table is stamped with 1, the terms that are left are tested by it, and stamped with 0 it
+-- has no marks again.
 use borrow.Author.Needs.{needs}
 use Prim.Native.Nat.{ℕ}
 use mathlib.Core.Bool.{not}
-use mathlib.Core.List.{List}
-use mathlib.Core.Path.{sym, ap, subst, _∙_}
+use mathlib.Core.List.{List, []}
+use mathlib.Core.Path.{_≡_, sym, ap, subst, _∙_}
 use native.Mathlib.Omega.{arith}
 use Rattle.sheet.specs.Conditions.{termsFrom}
 use Rattle.sheet.proofs.Accepted.{sound}
+use Rattle.sheet.proofs.ChainEnds.{terms-end}
 use Rattle.equality.specs.Meaning.{someTerm}
 use Rattle.equality.specs.Node.{classes}
-use Rattle.refutation.specs.Refutation.{decisionsOf}
+use Rattle.equality.proofs.Some.{some-false}
+use Rattle.refutation.specs.Refutation.{decisionsOf, groundFails, named}
 use Rattle.path.specs.Paths.{pathOf}
 use Rattle.path.proofs.Within.{within-small}
-use Rattle.checker.specs.Table.{Unmarked, stamped, ClassesWithin, mayHold}
+use Rattle.levels.proofs.Leveling.{top-classes, top-level}
+use Rattle.checker.specs.Table.{Unmarked, stamped, ClassMap, mayHold}
 use Rattle.checker.proofs.Marks.{marks-cleared}
-use Rattle.checker.proofs.Grounds.{classes-within, ground-agrees}
+use Rattle.checker.proofs.Grounds.{class-map, classes-within, ground-agrees}
 use Rattle.checker.proofs.ground_holds.Statement.{statement}
 use Rattle.checker.proofs.ground_holds.Tie as tie
 
-classes-of-requires : tie.Need-classes-of-requires
-classes-of-requires c κs = search needs
+top-requires : tie.Need-top-requires
+top-requires c κs = let w = c .before .before .before .before .before .pre .3 in (w .rows, omega (arith, w .places, w .deep), top-level w)
+
+-- The map at the path's level has its classes.
+map-is : (c : tie.After-top) → c .top .result .now ≡ classes (decisionsOf (pathOf (c .before .before .before .before .before .before .args .path .now) (c .before .before .before .before .before .before .args .depth)))
+map-is c = c .top .ensures ∙ top-classes (c .before .before .before .before .before .before .pre .3)
+
+is-map : (c : tie.After-top) → ClassMap (c .top .result .now)
+is-map c = subst ClassMap (sym (map-is c)) (class-map _)
 
 head-at-requires : tie.Need-head-at-requires
-head-at-requires c κs = let start = c .before .before .before .before in
+head-at-requires c κs = let start = c .before .before .before .before .before .before in
     omega (arith, start .pre .1, start .pre .2, start .pre .0 .counted, sound (start .args .sheet .now) (start .pre .0 .accepted) .header .whole)
 
--- The map has the path's classes, which are lots.
-map-within : (c : tie.After-classes-of) → ClassesWithin (c .classes-of .result .lots)
-map-within c = subst ClassesWithin (sym (c .classes-of .ensures)) (classes-within _)
+past-apart-requires : tie.Need-past-apart-requires
+past-apart-requires c κs = let start = c .before .before .before .before .before .before .before in (
+  start .pre .0,
+  is-map (c .before),
+  rw (c .head-at .ensures) (sound (start .args .sheet .now) (start .pre .0 .accepted) .heads (start .args .c .0) (start .pre .1) (omega (arith, start .pre .2, start .pre .0 .counted))),
+)
 
-stamp-requires : tie.Need-stamp-requires
-stamp-requires c κs = let start = c .before .before .before .before .before .before in
-    (start .pre .4 .size, start .pre .3, map-within (c .before .before))
+-- What is left of the chain decides the ground, by the path's classes and its marks.
+left-over : (c : tie.After-past-apart)
+    → someTerm (mayHold (classes (decisionsOf (pathOf (c .before .before .before .before .before .before .before .before .args .path .now) (c .before .before .before .before .before .before .before .before .args .depth)))) (stamped 1 (classes (decisionsOf (pathOf (c .before .before .before .before .before .before .before .before .args .path .now) (c .before .before .before .before .before .before .before .before .args .depth)))) (decisionsOf (pathOf (c .before .before .before .before .before .before .before .before .args .path .now) (c .before .before .before .before .before .before .before .before .args .depth))) (c .before .before .before .before .before .before .before .before .args .table .now))) (termsFrom (c .before .before .before .before .before .before .before .before .args .sheet .now) (c .past-apart .result .0))
+    ≡ groundFails (decisionsOf (pathOf (c .before .before .before .before .before .before .before .before .args .path .now) (c .before .before .before .before .before .before .before .before .args .depth))) (named (c .before .before .before .before .before .before .before .before .args .sheet .now) (c .before .before .before .before .before .before .before .before .args .c .0))
+left-over c =
+    let start = c .before .before .before .before .before .before .before .before in
+    let s = start .args .sheet .now in
+    let ds = decisionsOf (pathOf (start .args .path .now) (start .args .depth)) in
+    let marks = stamped 1 (classes ds) ds (start .args .table .now) in
+    let lots = map-is (c .before .before) in
+    let head = c .before .head-at .ensures in
+    sym (λ i. someTerm (mayHold (lots i) marks) (termsFrom s (c .past-apart .result .0)))
+    ∙ sym (c .past-apart .ensures .1 marks)
+    ∙ (λ i. someTerm (mayHold (lots i) marks) (termsFrom s (head i)))
+    ∙ ground-agrees ds (within-small (start .pre .3 .within)) (start .args .table .now) (start .pre .4) s (start .pre .0 .accepted) (start .args .c .0) (start .pre .1) (omega (arith, start .pre .2, start .pre .0 .counted))
 
-all-false-requires : tie.Need-all-false-requires
-all-false-requires c κs = let start = c .before .before .before .before .before .before .before .before .before .before in
-    let head = c .before .before .before .before .before .head-at in (
-      start .pre .0,
-      record { within = map-within (c .before .before .before .before .before .before); size = c .before .before .before .stamp .kept .0 ∙ start .pre .4 .size },
-      rw (head .ensures) (sound (start .args .sheet .now) (start .pre .0 .accepted) .heads (start .args .c .0) (start .pre .1) (omega (arith, start .pre .2, start .pre .0 .counted))),
+returns : tie.Need-returns
+returns c = let start = c .before .before .before .before .before .before .before .before .before .before in
+    let s = start .args .sheet .now in
+    let ds = decisionsOf (pathOf (start .args .path .now) (start .args .depth)) in
+    let marks = stamped 1 (classes ds) ds (start .args .table .now) in (
+      ap not
+          (sym (sym (left-over (c .before .before))
+          ∙ ap (λ (r : ℕ). someTerm (mayHold (classes ds) marks) (termsFrom s r)) (c .if1 .taken)
+          ∙ ap (someTerm (mayHold (classes ds) marks)) (terms-end s)
+          ∙ some-false (mayHold (classes ds) marks) [] tt)),
+      start .pre .4,
     )
 
+stamp-requires : tie.Need-stamp-requires
+stamp-requires c κs = let start = c .before .before .before .before .before .before .before .before .before .before .before in
+    (start .pre .4 .size, start .pre .3 .within, is-map (c .before .before .before .before .before))
+
+all-false-requires : tie.Need-all-false-requires
+all-false-requires c κs = let start = c .before .before .before .before .before .before .before .before .before .before .before .before .before .before .before in
+    (start .pre .0, is-map (c .before .before .before .before .before .before .before .before .before), c .before .before .before .stamp .kept .0 ∙ start .pre .4 .size, c .before .before .before .before .before .before .before .past-apart .ensures .0)
+
 stamp-requires-2 : tie.Need-stamp-requires-2
-stamp-requires-2 c κs = let start = c .before .before .before .before .before .before .before .before .before .before .before .before in
-    (c .before .before .before .before .before .stamp .kept .0 ∙ start .pre .4 .size, start .pre .3, map-within (c .before .before .before .before .before .before .before .before))
+stamp-requires-2 c κs = let start = c .before .before .before .before .before .before .before .before .before .before .before .before .before .before .before .before .before in
+    (c .before .before .before .before .before .stamp .kept .0 ∙ start .pre .4 .size, start .pre .3 .within, is-map (c .before .before .before .before .before .before .before .before .before .before .before))
 
 same-length : tie.Need-same-length
 same-length c = search needs
 
-returns : tie.Need-returns
-returns c = let start = c .before .before .before .before .before .before .before .before .before .before .before .before .before .before .before in
+returns-2 : tie.Need-returns-2
+returns-2 c = let start = c .before .before .before .before .before .before .before .before .before .before .before .before .before .before .before .before .before .before .before .before in
     let s = start .args .sheet .now in
     let ds = decisionsOf (pathOf (start .args .path .now) (start .args .depth)) in
     let table = start .args .table .now in
-    let small = within-small (start .pre .3) in
-    let map-is = c .before .before .before .before .before .before .before .before .before .before .before .classes-of .ensures in
-    let marked-is = c .before .before .before .before .before .before .before .before .stamp .ensures ∙ ap (λ (lots : List ℕ). stamped 1 lots ds table) map-is in
-    let head-is = c .before .before .before .before .before .before .before .before .before .before .head-at .ensures in (
+    let lots = map-is (c .before .before .before .before .before .before .before .before .before .before .before .before .before .before) in
+    let marks = c .before .before .before .before .before .before .before .before .stamp .ensures ∙ ap (λ (l : List ℕ). stamped 1 l ds table) lots in (
       c .before .before .before .before .all-false .ensures
-          ∙ (λ i. not (someTerm (mayHold (map-is i) (marked-is i)) (termsFrom s (head-is i))))
-          ∙ ap not (ground-agrees ds small table (start .pre .4) s (start .pre .0 .accepted) (start .args .c .0) (start .pre .1) (omega (arith, start .pre .2, start .pre .0 .counted))),
-      subst Unmarked (sym (c .before .before .stamp2 .ensures ∙ (λ i. stamped 0 (map-is i) ds (marked-is i))))
-          (marks-cleared (classes ds) (classes-within ds) ds small table (start .pre .4)),
+          ∙ (λ i. not (someTerm (mayHold (lots i) (marks i)) (termsFrom s (c .before .before .before .before .before .before .before .before .before .before .before .before .past-apart .result .0))))
+          ∙ ap not (left-over (c .before .before .before .before .before .before .before .before .before .before .before .before)),
+      subst Unmarked (sym (c .before .before .stamp2 .ensures ∙ (λ i. stamped 0 (lots i) ds (marks i))))
+          (marks-cleared (classes ds) (classes-within ds) ds (within-small (start .pre .3 .within)) table (start .pre .4)),
     )
 
 pub ground-holds-spec : {M : Type 1} → statement M
 ground-holds-spec =
     tie.close
     (tie.spec
-    classes-of-requires
+    top-requires
     head-at-requires
+    past-apart-requires
+    returns
     stamp-requires
     all-false-requires
     stamp-requires-2
     same-length
-    returns)
+    returns-2)

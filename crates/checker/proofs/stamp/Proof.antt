@@ -17,11 +17,11 @@ use Rattle.checker.proofs.stamp.Statement.{statement}
 use Rattle.checker.proofs.stamp.Tie as tie
 
 abbrev Inv-loop : tie.InvT-loop
-Inv-loop table₀ path depth value lots i₀ table i =
+Inv-loop table₀ path depth lots value i₀ table i =
     (i ≤ depth) × (length table ≡ tableLength) × (table ≡ stamped value lots (decisionsOf (pathOf path i)) table₀)
 
 abbrev μ-loop : tie.MeasureT-loop
-μ-loop table₀ path depth value lots i₀ table i = depth - i
+μ-loop table₀ path depth lots value i₀ table i = depth - i
 
 loop-holds : tie.Need-loop-holds Inv-loop μ-loop
 loop-holds c = (omega arith, c .before .before .before .pre .0, stamped-none _ _ _ _)
@@ -37,40 +37,40 @@ cast-b c = search needs
 
 -- The classes of a pair's lots are within the table.
 classes-within : (c : tie.After-pair-at Inv-loop μ-loop)
-    → (classOf (c .before .before .before .before .before .before .args .map .lots) (c .pair-at .result .a .0) ≤ mostLots) × (classOf (c .before .before .before .before .before .before .args .map .lots) (c .pair-at .result .b .0) ≤ mostLots)
+    → (classOf (c .before .before .before .before .before .before .args .lots .now) (c .pair-at .result .a .0) ≤ mostLots) × (classOf (c .before .before .before .before .before .before .args .lots .now) (c .pair-at .result .b .0) ≤ mostLots)
 classes-within c =
-    let within = c .before .before .before .before .before .before .pre .2 in
+    let within = c .before .before .before .before .before .before .pre .2 .within in
     (within _ (c .pair-at .ensures .1 .0), within _ (c .pair-at .ensures .1 .1))
 
-array-read-x : tie.Need-array-read-x Inv-loop μ-loop
-array-read-x c = omega (arith, c .before .before .before .before .pair-at .ensures .1 .0)
+shared-slice-read-x : tie.Need-shared-slice-read-x Inv-loop μ-loop
+shared-slice-read-x c = omega (arith, c .before .before .before .before .before .pair-at .ensures .1 .0, c .before .before .before .before .before .before .before .before .before .before .before .pre .2 .size)
 
 cast-x : tie.Need-cast-x Inv-loop μ-loop
-cast-x c = search needs
+cast-x c = let h = classes-within (c .before .before .before .before .before) in omega (arith, h .0)
 
-array-read-y : tie.Need-array-read-y Inv-loop μ-loop
-array-read-y c = omega (arith, c .before .before .before .before .pair-at .ensures .1 .1)
+shared-slice-read-y : tie.Need-shared-slice-read-y Inv-loop μ-loop
+shared-slice-read-y c = omega (arith, c .before .before .before .before .before .before .pair-at .ensures .1 .1, c .before .before .before .before .before .before .before .before .before .before .before .before .pre .2 .size)
 
 cast-y : tie.Need-cast-y Inv-loop μ-loop
-cast-y c = search needs
+cast-y c = let h = classes-within (c .before .before .before .before .before .before) in omega (arith, h .1)
 
 mul-table : tie.Need-mul-table Inv-loop μ-loop
-mul-table c = let h = classes-within (c .before .before .before .before) in record { fits = omega (arith, h .0, h .1) }
+mul-table c = let h = classes-within (c .before .before .before .before .before .before) in record { fits = omega (arith, h .0, h .1) }
 
 add-table : tie.Need-add-table Inv-loop μ-loop
-add-table c = let h = classes-within (c .before .before .before .before) in record { fits = omega (arith, h .0, h .1) }
+add-table c = let h = classes-within (c .before .before .before .before .before .before) in record { fits = omega (arith, h .0, h .1) }
 
 slice-write-table : tie.Need-slice-write-table Inv-loop μ-loop
-slice-write-table c = let h = classes-within (c .before .before .before .before) in omega (arith, h .0, h .1, c .before .before .before .before .before .before .loop .inv .1)
+slice-write-table c = let h = classes-within (c .before .before .before .before .before .before) in omega (arith, h .0, h .1, c .before .before .before .before .before .before .before .before .loop .inv .1)
 
 mul-table-2 : tie.Need-mul-table-2 Inv-loop μ-loop
-mul-table-2 c = let h = classes-within (c .before .before .before .before) in record { fits = omega (arith, h .0, h .1) }
+mul-table-2 c = let h = classes-within (c .before .before .before .before .before .before) in record { fits = omega (arith, h .0, h .1) }
 
 add-table-2 : tie.Need-add-table-2 Inv-loop μ-loop
-add-table-2 c = let h = classes-within (c .before .before .before .before) in record { fits = omega (arith, h .0, h .1) }
+add-table-2 c = let h = classes-within (c .before .before .before .before .before .before) in record { fits = omega (arith, h .0, h .1) }
 
 slice-write-table-2 : tie.Need-slice-write-table-2 Inv-loop μ-loop
-slice-write-table-2 c = let h = classes-within (c .before .before .before .before) in simp length-set (omega (arith, h .0, h .1, c .before .before .before .before .before .before .loop .inv .1))
+slice-write-table-2 c = let h = classes-within (c .before .before .before .before .before .before) in simp length-set (omega (arith, h .0, h .1, c .before .before .before .before .before .before .before .before .loop .inv .1))
 
 add-i : tie.Need-add-i Inv-loop μ-loop
 add-i c = search needs
@@ -82,13 +82,13 @@ loop-again : tie.Need-loop-again Inv-loop μ-loop
 loop-again c = let h = c .before .before .before .before in
     let inv = h .loop .inv in
     let pair = c .before .before .pair-at in
-    let start = h .before .before .before .before in
-    let lots = start .args .map .lots in
+    let start = c .before .before .before .before .before .before .before .before in
+    let lots = start .args .lots .now in
     let path = start .args .path .now in (
       omega arith,
-      ⊎-elim (λ w. ap length (w .3) ∙ simp length-set (inv .1)) (λ w. ap length (w .1) ∙ inv .1) (c .if1 .came),
+      ⊎-elim (λ w. ap length (w .5) ∙ simp length-set (inv .1)) (λ w. ap length (w .1) ∙ inv .1) (c .if1 .came),
       ⊎-elim
-          (λ w. w .3
+          (λ w. w .5
           ∙ ap (stampClasses (start .args .value) (classOf lots (pair .result .a .0)) (classOf lots (pair .result .b .0))) (inv .2)
           ∙ sym (apart-stamps (start .args .value) lots path (start .args .table .now) (h .loop .i) (pair .result) (pair .ensures .0) (not-true (pair .result .same) (w .0 .taken))))
           (λ w. w .1 ∙ inv .2 ∙ sym (same-stamps (start .args .value) lots path (start .args .table .now) (h .loop .i) (pair .result) (pair .ensures .0) (not-false (pair .result .same) (w .0 .left))))
@@ -101,7 +101,7 @@ same-length c = search needs
 returns : tie.Need-returns Inv-loop μ-loop
 returns c =
     let h = c .before in
-    let done : h .loop .i ≡ h .before .before .before .before .args .depth = omega arith in
+    let done : h .loop .i ≡ c .before .before .before .before .before .args .depth = omega arith in
     rw done at (h .loop .inv .2)
 
 pub stamp-spec : {M : Type 1} → statement M
@@ -114,9 +114,9 @@ stamp-spec =
     pair-at-requires
     cast-a
     cast-b
-    array-read-x
+    shared-slice-read-x
     cast-x
-    array-read-y
+    shared-slice-read-y
     cast-y
     mul-table
     add-table

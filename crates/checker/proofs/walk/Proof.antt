@@ -1,4 +1,5 @@
--- `checker::walk`: at record r the verdict is that of the walk over what is left, below the path's splits; the table has no marks.
+-- `checker::walk`: at record r the verdict is that of the walk over what is left, below the path's splits; the levels are those of the path, and the table has
+-- no marks.
 use borrow.Author.Needs.{needs}
 use Prim.Native.Nat.{_+_, _-_, _/_, _≤_}
 use mathlib.Core.Path.{_≡_, refl, sym, ap, subst, _∙_}
@@ -6,50 +7,57 @@ use native.Mathlib.Omega.{arith}
 use lib.ListN.{length, drop}
 use Rattle.store.specs.Records.{recordLength, recordsOf}
 use Rattle.refutation.specs.Refutation.{walkFrom, walkVerdict}
+use Rattle.levels.specs.Levels.{Walkable}
 use Rattle.checker.specs.Table.{Unmarked}
-use Rattle.checker.specs.Steps.{stepAs, Walkable, GoesOn}
+use Rattle.checker.specs.Steps.{stepAs, GoesOn}
 use Rattle.checker.proofs.Walking.{Walking, walking-start, walking-step, walking-on, walking-end}
 use Rattle.checker.proofs.walk.Statement.{statement}
 use Rattle.checker.proofs.walk.Tie as tie
 
 abbrev Inv-loop : tie.InvT-loop
-Inv-loop sheet n m list path₀ table₀ count depth₀ r₀ path table depth r =
-    (1 ≤ r) × (r ≤ count + 1) × Walking sheet list path depth r × Walkable path depth × Unmarked table × (length path ≡ length path₀)
+Inv-loop sheet n m list path₀ maps₀ levels₀ table₀ count depth₀ r₀ path maps levels table depth r =
+    (1 ≤ r)
+    × (r ≤ count + 1)
+    × Walking sheet list path depth r
+    × Walkable path maps levels depth
+    × Unmarked table
+    × (length path ≡ length path₀)
+    × (length levels ≡ length levels₀)
 
 abbrev μ-loop : tie.MeasureT-loop
-μ-loop sheet n m list path₀ table₀ count depth₀ r₀ path table depth r = count + 1 - r
+μ-loop sheet n m list path₀ maps₀ levels₀ table₀ count depth₀ r₀ path maps levels table depth r = count + 1 - r
 
 cast-count : tie.Need-cast-count Inv-loop μ-loop
 cast-count c = search needs
 
 loop-holds : tie.Need-loop-holds Inv-loop μ-loop
-loop-holds c = let start = c .before .before .before .before in
-    (omega arith, omega arith, walking-start (start .args .sheet .now) (start .args .list .now) (start .args .path .now), start .pre .3, start .pre .4, refl)
+loop-holds c = let start = c .before .before .before .before .before .before in
+    (omega arith, omega arith, walking-start (start .args .sheet .now) (start .args .list .now) (start .args .path .now), start .pre .3, start .pre .4, refl, refl)
 
 -- In a turn record r is one of the list's.
-numbered : (c : tie.In-loop Inv-loop μ-loop) → c .before .loop .r ≤ length (c .before .before .before .before .before .before .args .list .now) / recordLength
+numbered : (c : tie.In-loop Inv-loop μ-loop) → c .before .loop .r ≤ length (c .before .before .before .before .before .before .before .before .args .list .now) / recordLength
 numbered c = omega (arith, c)
 
 record-step-requires : tie.Need-record-step-requires Inv-loop μ-loop
-record-step-requires c κs = let start = c .before .before .before .before .before .before .before .before in
-    let inv = c .before .before .before .loop .inv in (
+record-step-requires c κs = let start = c .before .before .before .before .before .before .before .before .before .before .before .before in
+    let inv = c .before .before .before .before .before .loop .inv in (
       start .pre .0,
       start .pre .1,
-      record { least = inv .0; whole = omega (arith, numbered (c .before .before)) },
+      record { least = inv .0; whole = omega (arith, numbered (c .before .before .before .before)) },
       inv .3,
-      omega (arith, numbered (c .before .before), start .pre .2),
+      omega (arith, numbered (c .before .before .before .before), start .pre .2),
       inv .4,
     )
 
 -- What the step comes to is what the walk does.
 stepped : (c : tie.After-record-step Inv-loop μ-loop)
-    → walkVerdict (c .before .before .before .before .before .before .before .before .before .args .sheet .now) (c .before .before .before .before .before .before .before .before .before .args .list .now)
-    ≡ stepAs (walkFrom (c .before .before .before .before .before .before .before .before .before .args .sheet .now) (drop (c .before .before .before .before .loop .r) (recordsOf (c .before .before .before .before .before .before .before .before .before .args .list .now)))) (c .before .before .before .before .loop .r + 1) (c .record-step .last .1 .1 .1 .1 .0) (c .record-step .result)
+    → walkVerdict (c .before .before .before .before .before .before .before .before .before .before .before .before .before .args .sheet .now) (c .before .before .before .before .before .before .before .before .before .before .before .before .before .args .list .now)
+    ≡ stepAs (walkFrom (c .before .before .before .before .before .before .before .before .before .before .before .before .before .args .sheet .now) (drop (c .before .before .before .before .before .before .loop .r) (recordsOf (c .before .before .before .before .before .before .before .before .before .before .before .before .before .args .list .now)))) (c .before .before .before .before .before .before .loop .r + 1) (c .record-step .last .1 .1 .1 .1 .0) (c .record-step .result)
 stepped c =
-    let start = c .before .before .before .before .before .before .before .before .before in
-    let inv = c .before .before .before .before .loop .inv in
-    walking-step (start .args .sheet .now) (start .args .list .now) (c .before .before .before .before .loop .path) (c .record-step .last .1 .1 .1 .1 .0) (c .before .before .before .before .loop .depth) (c .before .before .before .before .loop .r)
-    (inv .2) (inv .0) (numbered (c .before .before .before)) (c .record-step .result) (c .record-step .ensures .0)
+    let start = c .before .before .before .before .before .before .before .before .before .before .before .before .before in
+    let inv = c .before .before .before .before .before .before .loop .inv in
+    walking-step (start .args .sheet .now) (start .args .list .now) (c .before .before .before .before .before .before .loop .path) (c .record-step .last .1 .1 .1 .1 .0) (c .before .before .before .before .before .before .loop .depth) (c .before .before .before .before .before .before .loop .r)
+    (inv .2) (inv .0) (numbered (c .before .before .before .before .before)) (c .record-step .result) (c .record-step .ensures .0)
 
 enum-told : tie.Need-enum-told Inv-loop μ-loop
 enum-told c = search needs
@@ -60,20 +68,32 @@ same-length c = search needs
 same-length-2 : tie.Need-same-length-2 Inv-loop μ-loop
 same-length-2 c = search needs
 
-returns : tie.Need-returns Inv-loop μ-loop
-returns c = sym (stepped (c .before .before .before .before .before .before) ∙ ap (stepAs _ _ (c .before .before .before .before .before .before .record-step .last .1 .1 .1 .1 .0)) (c .enum-told .given .1))
-
-enum-known-step : tie.Need-enum-known-step Inv-loop μ-loop
-enum-known-step c = search needs
-
 same-length-3 : tie.Need-same-length-3 Inv-loop μ-loop
 same-length-3 c = search needs
 
 same-length-4 : tie.Need-same-length-4 Inv-loop μ-loop
 same-length-4 c = search needs
 
+returns : tie.Need-returns Inv-loop μ-loop
+returns c = sym (stepped (c .before .before .before .before .before .before .before .before .before .before) ∙ ap (stepAs _ _ (c .before .before .before .before .before .before .before .before .before .before .record-step .last .1 .1 .1 .1 .0)) (c .enum-told .given .1))
+
+enum-known-step : tie.Need-enum-known-step Inv-loop μ-loop
+enum-known-step c = search needs
+
+same-length-5 : tie.Need-same-length-5 Inv-loop μ-loop
+same-length-5 c = search needs
+
+same-length-6 : tie.Need-same-length-6 Inv-loop μ-loop
+same-length-6 c = search needs
+
+same-length-7 : tie.Need-same-length-7 Inv-loop μ-loop
+same-length-7 c = search needs
+
+same-length-8 : tie.Need-same-length-8 Inv-loop μ-loop
+same-length-8 c = search needs
+
 returns-2 : tie.Need-returns-2 Inv-loop μ-loop
-returns-2 c = sym (stepped (c .before .before .before .before .before .before .before) ∙ ap (stepAs _ _ (c .before .before .before .before .before .before .before .record-step .last .1 .1 .1 .1 .0)) (c .before .step .given .1))
+returns-2 c = sym (stepped (c .before .before .before .before .before .before .before .before .before .before .before) ∙ ap (stepAs _ _ (c .before .before .before .before .before .before .before .before .before .before .before .record-step .last .1 .1 .1 .1 .0)) (c .before .step .given .1))
 
 enum-known-step-2 : tie.Need-enum-known-step-2 Inv-loop μ-loop
 enum-known-step-2 c = search needs
@@ -82,28 +102,36 @@ add-r : tie.Need-add-r Inv-loop μ-loop
 add-r c = search needs
 
 loop-less : tie.Need-loop-less Inv-loop μ-loop
-loop-less c = omega (arith, numbered (c .before .before .before .before .before .before .before .before .before .before))
+loop-less c = omega (arith, numbered (c .before .before .before .before .before .before .before .before .before .before .before .before .before .before .before .before))
 
 loop-again : tie.Need-loop-again Inv-loop μ-loop
-loop-again c = let start = c .before .before .before .before .before .before .before .before .before .before .before .before .before .before .before .before in
-    let step = c .before .before .before .before .before .before .before .record-step in
-    let r = c .before .before .before .before .before .before .before .before .before .before .before .loop .r in (
+loop-again c = let start = c .before .before .before .before .before .before .before .before .before .before .before .before .before .before .before .before .before .before .before .before .before .before .before .before in
+    let step = c .before .before .before .before .before .before .before .before .before .before .before .record-step in
+    let inv = c .before .before .before .before .before .before .before .before .before .before .before .before .before .before .before .before .before .loop .inv in
+    let told = c .before .step2 .given in (
       omega arith,
-      omega (arith, numbered (c .before .before .before .before .before .before .before .before .before .before)),
-      walking-on (start .args .sheet .now) (start .args .list .now) (step .last .1 .1 .1 .1 .0) (c .before .step2 .given .0 .0) r (stepped (c .before .before .before .before .before .before .before) ∙ ap (stepAs _ _ (c .before .before .before .before .before .before .before .record-step .last .1 .1 .1 .1 .0)) (c .before .step2 .given .1)),
-      subst (GoesOn (step .last .1 .1 .1 .1 .0)) (c .before .step2 .given .1) (step .ensures .1 .0),
+      omega (arith, numbered (c .before .before .before .before .before .before .before .before .before .before .before .before .before .before .before .before)),
+      walking-on (start .args .sheet .now) (start .args .list .now) (step .last .1 .1 .1 .1 .0) (told .0 .0) (c .before .before .before .before .before .before .before .before .before .before .before .before .before .before .before .before .before .loop .r) (stepped (c .before .before .before .before .before .before .before .before .before .before .before) ∙ ap (stepAs _ _ (c .before .before .before .before .before .before .before .before .before .before .before .record-step .last .1 .1 .1 .1 .0)) (told .1)),
+      subst (GoesOn (step .last .1 .1 .1 .1 .0) (step .last .1 .1 .1 .1 .1 .1 .0) (step .last .1 .1 .1 .1 .1 .1 .1 .0)) (told .1) (step .ensures .1 .0),
       step .ensures .1 .1,
-      step .kept .1 .1 .1 .1 .0 ∙ c .before .before .before .before .before .before .before .before .before .before .before .loop .inv .5,
+      step .kept .1 .1 .1 .1 .0 ∙ inv .5,
+      step .kept .1 .1 .1 .1 .1 .1 .1 .0 ∙ inv .6,
     )
 
-same-length-5 : tie.Need-same-length-5 Inv-loop μ-loop
-same-length-5 c = search needs
+same-length-9 : tie.Need-same-length-9 Inv-loop μ-loop
+same-length-9 c = search needs
 
-same-length-6 : tie.Need-same-length-6 Inv-loop μ-loop
-same-length-6 c = search needs
+same-length-10 : tie.Need-same-length-10 Inv-loop μ-loop
+same-length-10 c = search needs
+
+same-length-11 : tie.Need-same-length-11 Inv-loop μ-loop
+same-length-11 c = search needs
+
+same-length-12 : tie.Need-same-length-12 Inv-loop μ-loop
+same-length-12 c = search needs
 
 returns-3 : tie.Need-returns-3 Inv-loop μ-loop
-returns-3 c = let start = c .before .before .before .before .before .before in
+returns-3 c = let start = c .before .before .before .before .before .before .before .before in
     sym (walking-end (start .args .sheet .now) (start .args .list .now) (c .before .loop .path) (c .before .loop .depth) (c .before .loop .r) (c .before .loop .inv .2) (omega (arith, c)))
 
 pub walk-spec : {M : Type 1} → statement M
@@ -118,15 +146,21 @@ walk-spec =
     enum-told
     same-length
     same-length-2
-    returns
-    enum-known-step
     same-length-3
     same-length-4
+    returns
+    enum-known-step
+    same-length-5
+    same-length-6
+    same-length-7
+    same-length-8
     returns-2
     enum-known-step-2
     add-r
     loop-less
     loop-again
-    same-length-5
-    same-length-6
+    same-length-9
+    same-length-10
+    same-length-11
+    same-length-12
     returns-3)
