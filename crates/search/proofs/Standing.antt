@@ -2,7 +2,7 @@
 use Prim.Native.Nat.{ℕ, _+_, _*_, _≤_, _<_}
 use mathlib.Core.Bool.{Bool, cond, _||_}
 use mathlib.Core.List.{List, [], _∷_}
-use mathlib.Core.Path.{_≡_, refl, ap, ap₂, _∙_}
+use mathlib.Core.Path.{_≡_, refl, sym, ap, ap₂, _∙_}
 use native.Mathlib.Omega.{arith}
 use lib.Dec.{eqb}
 use lib.ListN.{length, getD, length-set}
@@ -14,6 +14,7 @@ use Rattle.sheet.proofs.Conditions.{terms-length}
 use Rattle.equality.specs.Node.{Decisions, classes, merged, classOf, marked, split, node}
 use Rattle.equality.proofs.Small.{conditions-small}
 use Rattle.equality.proofs.Least.{least}
+use Rattle.equality.proofs.Node.{taken-apart}
 use Rattle.equality.proofs.Steps.{closed}
 use Rattle.equality.proofs.Rule.{split-at}
 use Rattle.equality.proofs.Bounds.{all-same-terms}
@@ -23,7 +24,8 @@ use Rattle.classes.specs.Pairs.{setApart, withPair, PairsWithin}
 use Rattle.classes.proofs.Path.{pair-leaves, new-represents, join-represents, apart-represents, below-represents, represented-within, smallest-says, marked-says}
 use Rattle.node.specs.declared.Resume.{Resume}
 use Rattle.node.specs.declared.Resume.the-variants.{Scan, Within}
-use Rattle.node.specs.Resume.{Resumes, StartsWithin}
+use Rattle.node.specs.Resume.{ResumesWithin, Resumes, StartsWithin}
+use Rattle.node.proofs.Settling.{same-settled}
 use Rattle.search.specs.Visited.{Standing, Untouched, EntriesWithin}
 
 -- ---- the open "same" terms, counted by the map and the pairs: the measure of the visits
@@ -63,10 +65,21 @@ module _ (shut : ℕ → ℕ → Bool) (ds : Decisions) (agrees : (a b : ℕ) �
 
 -- ---- the path
 
--- Where a visit may go on is within the sheet.
-pub starts-within : (s : List ℕ) (from : Resume) (ds : Decisions) → Resumes s from ds → StartsWithin s from
-starts-within s Scan ds resumes = tt
-starts-within s (Within c r) ds resumes = resumes .passes .within
+-- Where a visit may go on is within the sheet, after conditions that the map settles.
+pub starts-within : (s : List ℕ) (cs : List ℕ) (from : Resume) (ds : Decisions) → cs ≡ classes ds → Resumes s from ds → StartsWithin s cs from
+starts-within s cs (Scan settled) ds same-classes resumes = rw same-classes resumes
+starts-within s cs (Within c r settled) ds same-classes resumes = resumes .passes .within
+
+-- With no decision none is settled.
+pub start-resumes : (s : List ℕ) → Resumes s (Scan 0) []
+start-resumes s = record { within = omega arith; each = λ i low high. absurd (omega arith) }
+
+-- The same branch of a split scans after those that its taken condition, now settled, is counted with.
+pub same-resumes : (s : List ℕ) (c a b r settled : ℕ) (ds : Decisions) → node ds (conditions s) ≡ split a b → ResumesWithin s c r settled (apart a b ∷ ds)
+    → Resumes s (Scan settled) (same a b ∷ ds)
+unfolding classes
+same-resumes s c a b r settled ds e w =
+    same-settled ds s c a b settled e (sym (taken-apart ds a b 1 (conditions s)) ∙ w .condition) (w .others)
 
 -- No decision, and pairs with room for one of each term that a sheet can have.
 pub start-standing : (s : List ℕ) → Accepted s → (map : Classes) (pairs : List ℕ) → map .lots ≡ classes [] → length pairs ≡ 2 * mostRecords → Standing s map pairs 0 []

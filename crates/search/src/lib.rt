@@ -1,16 +1,15 @@
 // The search over a sheet: its answer, the grouping it finds and the nodes it visits.
 ghost use mathlib.Core.Path.{_≡_};
-ghost use mathlib.Core.List.{_∷_};
 ghost use Prim.Native.Nat.{_≤_, _<_};
 ghost use lib.ListN.{length, take, drop};
 ghost use Rattle.sheet.specs.declared.Verdict.the-variants.{Passes};
 ghost use Rattle.sheet.specs.Format.{mostLots, lotCount};
-ghost use Rattle.sheet.specs.Conditions.{apart, conditions};
+ghost use Rattle.sheet.specs.Conditions.{conditions};
 ghost use Rattle.equality.specs.Node.{Decisions, split, node};
 ghost use Rattle.equality.specs.Search.{Tree, searchTree};
 ghost use Rattle.equality.proofs.Visits.{Visits};
 ghost use Rattle.node.specs.Scan.{Scannable};
-ghost use Rattle.node.specs.Resume.{Resumes, ResumesWithin};
+ghost use Rattle.node.specs.Resume.{Resumes, SplitLeaves};
 ghost use Rattle.store.specs.Records.{capacity};
 ghost use Rattle.store.specs.Outcome.{resultOf, searchOutcome};
 ghost use Rattle.search.specs.Answers.{searchAnswer};
@@ -19,15 +18,17 @@ ghost use Rattle.search.specs.Visited.{Searchable, Standing, EntriesWith
 use classes::Classes;
 use node::Node;
 use node::Resume;
-use sheet::Condition;
+use node::Split;
 use sheet::Lot;
 use sheet::Reading;
-use sheet::Record;
 use store::NodeNumber;
 use store::NodeRecord;
 
 // The bytes of the pairs that a path can set apart: two for each term that a sheet can have.
 const PAIRS_LENGTH: usize = 2048;
+
+// With no decision no condition is known to be settled.
+const NONE_SETTLED: u16 = 0;
 
 // How a visit ended: met, or nothing met under the node, with the records written so far; or the store is full.
 pub enum Visited {
@@ -91,49 +92,35 @@ fn visit(
             store::write(store, NodeNumber(before + 1), NodeRecord::Ground(c));
             Visited::Cannot(before + 1)
         }
-        Node::Split(c, a, b, after) => branches(
-            sheet,
-            m,
-            map,
-            count,
-            c,
-            a,
-            b,
-            after,
-            before,
-            pairs,
-            grouping,
-            store,
-        ),
+        Node::Split(on) => branches(sheet, m, map, count, on, before, pairs, grouping, store),
     }
 }
 
-// A split on two lots: its record, all under its same branch, and, if nothing was met there, all under its apart branch, which goes on in the same condition
-// after the term of the split. The store is seen to have room before the split's next is set, since that has two bytes.
+// A split on two lots: its record, all under its same branch, which scans the conditions after the settled ones, and, if nothing was met there, all under its
+// apart branch, which goes on in the same condition after the term of the split. The store is seen to have room before the split's next is set, since that has two bytes.
 fn branches(
     sheet: &[u8],
     m: u16,
     map: Classes,
     count: usize,
-    c: Condition,
-    a: Lot,
-    b: Lot,
-    after: Record,
+    on: Split,
     before: u32,
     pairs: &mut [u8],
     grouping: &mut [u8],
     store: &mut [u8],
 ) -> Visited
     requires { ⌜ Searchable (now sheet) m (now grouping) × (before < capacity (now store))
-        × ((ds : Decisions) × (Standing (now sheet) map (now pairs) count ds × (node ds (conditions (now sheet)) ≡ split (a .0) (b .0))
-        × ResumesWithin (now sheet) (c .0) (after .0) (apart (a .0) (b .0) ∷ ds))) ⌝ }
+        × ((ds : Decisions) × (Standing (now sheet) map (now pairs) count ds × (node ds (conditions (now sheet)) ≡ split (on .a .0) (on .b .0))
+        × SplitLeaves (now sheet) on ds)) ⌝ }
     ensures visited { λ r. ⌜ ((ds : Decisions) (t : Tree) → Standing (now (sheet .entry)) map (now (pairs .entry)) count ds
-        → node ds (conditions (now (sheet .entry))) ≡ split (a .0) (b .0) → ResumesWithin (now (sheet .entry)) (c .0) (after .0) (apart (a .0) (b .0) ∷ ds)
+        → node ds (conditions (now (sheet .entry))) ≡ split (on .a .0) (on .b .0) → SplitLeaves (now (sheet .entry)) on ds
         → Visits (conditions (now (sheet .entry))) ds t
         → Explored before (now (store .entry)) (now (store .exit)) (now (grouping .entry)) (now (grouping .exit)) r t) ⌝ }
     ensures pairs { λ r. ⌜ Untouched (now (pairs .entry)) (now (pairs .exit)) count ⌝ }
 {
     let here = NodeNumber(before + 1);
+    let a = on.a;
+    let b = on.b;
     store::write(store, here, NodeRecord::Split(a, b, NodeNumber(0)));
     let joined = map.join(a, b);
     let under_same = visit(
@@ -141,7 +128,7 @@ fn branches(
         m,
         joined,
         count,
-        Resume::Scan,
+        Resume::Scan(on.settled),
         before + 1,
         pairs,
         grouping,
@@ -156,12 +143,14 @@ fn branches(
             }
             store::set_next(store, here, NodeNumber(n + 1));
             classes::set_apart(pairs, count, a, b);
+            let c = on.condition;
+            let after = on.after;
             visit(
                 sheet,
                 m,
                 map,
                 count + 1,
-                Resume::Within(c, after),
+                Resume::Within(c, after, on.settled),
                 n,
                 pairs,
                 grouping,
@@ -183,7 +172,7 @@ fn start(sheet: &[u8], m: u16, grouping: &mut [u8], store: &mut [u8]) -> Visited
         m,
         map,
         0,
-        Resume::Scan,
+        Resume::Scan(NONE_SETTLED),
         0,
         &mut pairs,
         grouping,

@@ -15,13 +15,13 @@ use Rattle.equality.specs.Search.{Tree, groupingBytes}
 use Rattle.equality.proofs.Visits.{Visits, met-tree, ground-tree, split-tree}
 use Rattle.store.specs.Records.{recordLength, splitRecord, groundRecord, metRecord, encode, capacity}
 use Rattle.node.specs.declared.Node as declared
-use Rattle.node.specs.Resume.{nodeAs, Resumes, Leaves}
+use Rattle.node.specs.Resume.{nodeAs, Resumes, SplitLeaves, Leaves}
 use Rattle.store.proofs.Fitting.{node-count}
 use Rattle.search.specs.Visited.{Standing, Explored}
 use Rattle.search.proofs.Exploring.{none-explored, met-explored, ground-explored}
 use Rattle.search.proofs.Splitting.{split-met, split-full, split-over, split-apart}
 use Rattle.search.proofs.Room.{has-place, number-fits}
-use Rattle.search.proofs.Standing.{openCount, starts-within, pairs-within, entries-within, split-small, same-standing, same-less, pair-room, apart-standing, apart-less, untouched-through}
+use Rattle.search.proofs.Standing.{openCount, starts-within, same-resumes, pairs-within, entries-within, split-small, same-standing, same-less, pair-room, apart-standing, apart-less, untouched-through}
 use borrow.Fn.Kinds.{In}
 use borrow.Fn.PlainCycle.{Measures, is, falls, and}
 use Rattle.search.proofs.branches.Reads as branches
@@ -41,7 +41,7 @@ use Rattle.search.proofs.+branches+visit.{statement}
 use Rattle.search.proofs.+branches+visit.Tie.{close}
 
 abbrev μ-branches : Measures 4 branches-kinds.ps ℕ
-μ-branches κs a = 2 * openCount (a .0 .now) (a .1 .1 .0 .lots) (a .1 .1 .1 .1 .1 .1 .1 .1 .1 .0 .now) (a .1 .1 .1 .0)
+μ-branches κs a = 2 * openCount (a .0 .now) (a .1 .1 .0 .lots) (a .1 .1 .1 .1 .1 .1 .0 .now) (a .1 .1 .1 .0)
 
 abbrev μ-visit : Measures 4 visit-kinds.ps ℕ
 μ-visit κs a = 2 * openCount (a .0 .now) (a .1 .1 .0 .lots) (a .1 .1 .1 .1 .1 .1 .0 .now) (a .1 .1 .1 .0) + 1
@@ -94,57 +94,59 @@ visit-claims t = (
 -- The split's record is written,
 branches-written : (t : ℕ) (c : branches-lts.After-visit (branches-claims t) (branches-at t) branches.Post)
     → c .before .before .before .before .before .before .before .write .last .0
-    ≡ sets (c .before .before .before .before .before .before .before .before .before .before .before .before .before .args .store .now) (recordLength * c .before .before .before .before .before .before .before .before .before .before .before .before .before .args .before) (encode (splitRecord (c .before .before .before .before .before .before .before .before .before .before .before .before .before .args .a .0) (c .before .before .before .before .before .before .before .before .before .before .before .before .before .args .b .0) 0))
+    ≡ sets (c .before .before .before .before .before .before .before .before .before .before .before .before .before .before .before .args .store .now) (recordLength * c .before .before .before .before .before .before .before .before .before .before .before .before .before .before .before .args .before) (encode (splitRecord (c .before .before .before .before .before .before .before .before .before .before .before .before .before .before .before .args .on .a .0) (c .before .before .before .before .before .before .before .before .before .before .before .before .before .before .before .args .on .b .0) 0))
 branches-written t c =
-    let start = c .before .before .before .before .before .before .before .before .before .before .before .before .before in
+    let start = c .before .before .before .before .before .before .before .before .before .before .before .before .before .before .before in
     let place : start .args .before + 1 - 1 ≡ start .args .before = omega arith in
     c .before .before .before .before .before .before .before .write .ensures
-    ∙ ap (λ (k : ℕ). sets (start .args .store .now) (recordLength * k) (encode (splitRecord (start .args .a .0) (start .args .b .0) 0))) place
+    ∙ ap (λ (k : ℕ). sets (start .args .store .now) (recordLength * k) (encode (splitRecord (start .args .on .a .0) (start .args .on .b .0) 0))) place
 
 -- and the branch is visited, for whatever path the map and the pairs represent.
 branches-told : (t : ℕ) (c : branches-lts.After-visit (branches-claims t) (branches-at t) branches.Post) (ds : Decisions)
-    → Standing (c .before .before .before .before .before .before .before .before .before .before .before .before .before .args .sheet .now) (c .before .before .before .before .before .before .before .before .before .before .before .before .before .args .map) (c .before .before .before .before .before .before .before .before .before .before .before .before .before .args .pairs .now) (c .before .before .before .before .before .before .before .before .before .before .before .before .before .args .count) ds
-    → node ds (conditions (c .before .before .before .before .before .before .before .before .before .before .before .before .before .args .sheet .now)) ≡ split (c .before .before .before .before .before .before .before .before .before .before .before .before .before .args .a .0) (c .before .before .before .before .before .before .before .before .before .before .before .before .before .args .b .0)
-    → (tree : Tree) → Visits (conditions (c .before .before .before .before .before .before .before .before .before .before .before .before .before .args .sheet .now)) (same (c .before .before .before .before .before .before .before .before .before .before .before .before .before .args .a .0) (c .before .before .before .before .before .before .before .before .before .before .before .before .before .args .b .0) ∷ ds) tree
-    → Explored (c .before .before .before .before .before .before .before .before .before .before .before .before .before .args .before + 1) (c .before .before .before .before .before .before .before .write .last .0) (c .visit .last .1 .1 .1 .1 .1 .1 .1 .1 .0) (c .before .before .before .before .before .before .before .before .before .before .before .before .before .args .grouping .now) (c .visit .last .1 .1 .1 .1 .1 .1 .1 .0) (c .visit .result) tree
-branches-told t c ds st e tree v =
-    let start = c .before .before .before .before .before .before .before .before .before .before .before .before .before in
+    → Standing (c .before .before .before .before .before .before .before .before .before .before .before .before .before .before .before .args .sheet .now) (c .before .before .before .before .before .before .before .before .before .before .before .before .before .before .before .args .map) (c .before .before .before .before .before .before .before .before .before .before .before .before .before .before .before .args .pairs .now) (c .before .before .before .before .before .before .before .before .before .before .before .before .before .before .before .args .count) ds
+    → node ds (conditions (c .before .before .before .before .before .before .before .before .before .before .before .before .before .before .before .args .sheet .now)) ≡ split (c .before .before .before .before .before .before .before .before .before .before .before .before .before .before .before .args .on .a .0) (c .before .before .before .before .before .before .before .before .before .before .before .before .before .before .before .args .on .b .0)
+    → SplitLeaves (c .before .before .before .before .before .before .before .before .before .before .before .before .before .before .before .args .sheet .now) (c .before .before .before .before .before .before .before .before .before .before .before .before .before .before .before .args .on) ds
+    → (tree : Tree) → Visits (conditions (c .before .before .before .before .before .before .before .before .before .before .before .before .before .before .before .args .sheet .now)) (same (c .before .before .before .before .before .before .before .before .before .before .before .before .before .before .before .args .on .a .0) (c .before .before .before .before .before .before .before .before .before .before .before .before .before .before .before .args .on .b .0) ∷ ds) tree
+    → Explored (c .before .before .before .before .before .before .before .before .before .before .before .before .before .before .before .args .before + 1) (c .before .before .before .before .before .before .before .write .last .0) (c .visit .last .1 .1 .1 .1 .1 .1 .1 .1 .0) (c .before .before .before .before .before .before .before .before .before .before .before .before .before .before .before .args .grouping .now) (c .visit .last .1 .1 .1 .1 .1 .1 .1 .0) (c .visit .result) tree
+branches-told t c ds st e res tree v =
+    let start = c .before .before .before .before .before .before .before .before .before .before .before .before .before .before .before in
     let joined = c .before .before .before .before .join in
     c .visit .ensures .0 _ tree
-    (same-standing st (start .pre .1 .0 .scannable .accepted) _ _ e (joined .result) (joined .ensures)) tt v
+    (same-standing st (start .pre .1 .0 .scannable .accepted) _ _ e (joined .result) (joined .ensures))
+    (same-resumes (start .args .sheet .now) _ _ _ _ _ ds e res) v
 
 -- ---- branches: what is known once the pair is set apart
 
 branches-apart : (t : ℕ) (c : branches-lts.After-set-apart (branches-claims t) (branches-at t) branches.Post) (ds : Decisions)
-    → Standing (c .before .before .before .before .before .before .before .before .before .before .before .before .before .before .before .before .before .before .before .before .before .before .before .before .before .before .before .before .before .before .before .args .sheet .now) (c .before .before .before .before .before .before .before .before .before .before .before .before .before .before .before .before .before .before .before .before .before .before .before .before .before .before .before .before .before .before .before .args .map) (c .before .before .before .before .before .before .before .before .before .before .before .before .before .before .before .before .before .before .before .before .before .before .before .before .before .before .before .before .before .before .before .args .pairs .now) (c .before .before .before .before .before .before .before .before .before .before .before .before .before .before .before .before .before .before .before .before .before .before .before .before .before .before .before .before .before .before .before .args .count) ds
-    → node ds (conditions (c .before .before .before .before .before .before .before .before .before .before .before .before .before .before .before .before .before .before .before .before .before .before .before .before .before .before .before .before .before .before .before .args .sheet .now)) ≡ split (c .before .before .before .before .before .before .before .before .before .before .before .before .before .before .before .before .before .before .before .before .before .before .before .before .before .before .before .before .before .before .before .args .a .0) (c .before .before .before .before .before .before .before .before .before .before .before .before .before .before .before .before .before .before .before .before .before .before .before .before .before .before .before .before .before .before .before .args .b .0)
-    → Standing (c .before .before .before .before .before .before .before .before .before .before .before .before .before .before .before .before .before .before .before .before .before .before .before .before .before .before .before .before .before .before .before .args .sheet .now) (c .before .before .before .before .before .before .before .before .before .before .before .before .before .before .before .before .before .before .before .before .before .before .before .before .before .before .before .before .before .before .before .args .map) (c .set-apart .last .0) (c .before .before .before .before .before .before .before .before .before .before .before .before .before .before .before .before .before .before .before .before .before .before .before .before .before .before .before .before .before .before .before .args .count + 1) (apart (c .before .before .before .before .before .before .before .before .before .before .before .before .before .before .before .before .before .before .before .before .before .before .before .before .before .before .before .before .before .before .before .args .a .0) (c .before .before .before .before .before .before .before .before .before .before .before .before .before .before .before .before .before .before .before .before .before .before .before .before .before .before .before .before .before .before .before .args .b .0) ∷ ds)
+    → Standing (c .before .before .before .before .before .before .before .before .before .before .before .before .before .before .before .before .before .before .before .before .before .before .before .before .before .before .before .before .before .before .before .before .before .args .sheet .now) (c .before .before .before .before .before .before .before .before .before .before .before .before .before .before .before .before .before .before .before .before .before .before .before .before .before .before .before .before .before .before .before .before .before .args .map) (c .before .before .before .before .before .before .before .before .before .before .before .before .before .before .before .before .before .before .before .before .before .before .before .before .before .before .before .before .before .before .before .before .before .args .pairs .now) (c .before .before .before .before .before .before .before .before .before .before .before .before .before .before .before .before .before .before .before .before .before .before .before .before .before .before .before .before .before .before .before .before .before .args .count) ds
+    → node ds (conditions (c .before .before .before .before .before .before .before .before .before .before .before .before .before .before .before .before .before .before .before .before .before .before .before .before .before .before .before .before .before .before .before .before .before .args .sheet .now)) ≡ split (c .before .before .before .before .before .before .before .before .before .before .before .before .before .before .before .before .before .before .before .before .before .before .before .before .before .before .before .before .before .before .before .before .before .args .on .a .0) (c .before .before .before .before .before .before .before .before .before .before .before .before .before .before .before .before .before .before .before .before .before .before .before .before .before .before .before .before .before .before .before .before .before .args .on .b .0)
+    → Standing (c .before .before .before .before .before .before .before .before .before .before .before .before .before .before .before .before .before .before .before .before .before .before .before .before .before .before .before .before .before .before .before .before .before .args .sheet .now) (c .before .before .before .before .before .before .before .before .before .before .before .before .before .before .before .before .before .before .before .before .before .before .before .before .before .before .before .before .before .before .before .before .before .args .map) (c .set-apart .last .0) (c .before .before .before .before .before .before .before .before .before .before .before .before .before .before .before .before .before .before .before .before .before .before .before .before .before .before .before .before .before .before .before .before .before .args .count + 1) (apart (c .before .before .before .before .before .before .before .before .before .before .before .before .before .before .before .before .before .before .before .before .before .before .before .before .before .before .before .before .before .before .before .before .before .args .on .a .0) (c .before .before .before .before .before .before .before .before .before .before .before .before .before .before .before .before .before .before .before .before .before .before .before .before .before .before .before .before .before .before .before .before .before .args .on .b .0) ∷ ds)
 branches-apart t c ds st e =
     let same-branch = c .before .before .before .before .before .before .before .before .before .before .before .before .before .before .before .before .before .before in
-    apart-standing st (c .before .before .before .before .before .before .before .before .before .before .before .before .before .before .before .before .before .before .before .before .before .before .before .before .before .before .before .before .before .before .before .pre .1 .0 .scannable .accepted) _ _ e (same-branch .visit .last .1 .1 .1 .1 .1 .1 .0) (c .set-apart .last .0)
+    apart-standing st (c .before .before .before .before .before .before .before .before .before .before .before .before .before .before .before .before .before .before .before .before .before .before .before .before .before .before .before .before .before .before .before .before .before .pre .1 .0 .scannable .accepted) _ _ e (same-branch .visit .last .1 .1 .1 .1 .1 .1 .0) (c .set-apart .last .0)
     (same-branch .visit .kept .1 .1 .1 .1 .1 .1 .0) (same-branch .visit .ensures .1) (c .set-apart .ensures)
 
 branches-add-visit : (t : ℕ) → branches-lts.Need-add-visit (branches-claims t) (branches-at t) branches.Post
 branches-add-visit t c = record { fits = omega (arith, c .before .before .before .before .pre .1 .1) }
 
 branches-write-requires : (t : ℕ) → branches-lts.Need-write-requires (branches-claims t) (branches-at t) branches.Post
-branches-write-requires t c κs = let start = c .before .before .before .before .before in
+branches-write-requires t c κs = let start = c .before .before .before .before .before .before .before in
     (has-place (start .args .store .now) (start .args .before) (start .pre .1 .1) (start .args .store .now) refl, omega arith)
 
 branches-join-requires : (t : ℕ) → branches-lts.Need-join-requires (branches-claims t) (branches-at t) branches.Post
-branches-join-requires t c κs = let start = c .before .before .before .before .before .before .before .before in
+branches-join-requires t c κs = let start = c .before .before .before .before .before .before .before .before .before .before in
     split-small (start .pre .1 .2 .1 .0) (start .pre .1 .0 .scannable .accepted) _ _ (start .pre .1 .2 .1 .1)
 
 branches-add-visit-2 : (t : ℕ) → branches-lts.Need-add-visit-2 (branches-claims t) (branches-at t) branches.Post
-branches-add-visit-2 t c = record { fits = omega (arith, c .before .before .before .before .before .before .before .before .before .pre .1 .1) }
+branches-add-visit-2 t c = record { fits = omega (arith, c .before .before .before .before .before .before .before .before .before .before .before .pre .1 .1) }
 
 branches-visit-requires : (t : ℕ) → branches-lts.Need-visit-requires (branches-claims t) (branches-at t) branches.Post
-branches-visit-requires t c κs = let start = c .before .before .before .before .before .before .before .before .before .before .before .before in
+branches-visit-requires t c κs = let start = c .before .before .before .before .before .before .before .before .before .before .before .before .before .before in
     let joined = c .before .before .before .join in
     let ok = start .pre .1 .0 .scannable .accepted in
     let path = start .pre .1 .2 .1 in (
       omega (arith, start .pre .0, same-less (path .0) ok _ _ (path .1) (joined .result) (joined .ensures)),
-      (start .pre .1 .0, (_, (same-standing (path .0) ok _ _ (path .1) (joined .result) (joined .ensures), tt))),
+      (start .pre .1 .0, (_, (same-standing (path .0) ok _ _ (path .1) (joined .result) (joined .ensures), same-resumes (start .args .sheet .now) _ _ _ _ _ _ (path .1) (path .2)))),
     )
 
 branches-enum-known-under-same : (t : ℕ) → branches-lts.Need-enum-known-under-same (branches-claims t) (branches-at t) branches.Post
@@ -173,42 +175,42 @@ branches-same-length-3 t c = search needs
 
 branches-returns : (t : ℕ) → branches-lts.Need-returns (branches-claims t) (branches-at t) branches.Post
 branches-returns t c = let same-branch = c .before .before .before .before .before .before .before .before .before .before .before .before in
-    let start = same-branch .before .before .before .before .before .before .before .before .before .before .before .before .before in
+    let start = same-branch .before .before .before .before .before .before .before .before .before .before .before .before .before .before .before in
     let under-same = c .before .before .before .before .under-same2 in (
       (λ ds tree st e res v.
           split-over (split-tree v e) (start .args .before) (start .args .store .now) _ _ (start .args .grouping .now) _
-          (branches-written t same-branch) _ (branches-told t same-branch ds st e) (under-same .given .0 .0) (under-same .given .1)
+          (branches-written t same-branch) _ (branches-told t same-branch ds st e res) (under-same .given .0 .0) (under-same .given .1)
           (omega (arith, c .before .capacity-of .ensures, c .if1 .taken))),
       same-branch .visit .ensures .1,
     )
 
-branches-add-t40 : (t : ℕ) → branches-lts.Need-add-t40 (branches-claims t) (branches-at t) branches.Post
-branches-add-t40 t c = search needs
+branches-add-t41 : (t : ℕ) → branches-lts.Need-add-t41 (branches-claims t) (branches-at t) branches.Post
+branches-add-t41 t c = search needs
 
 branches-set-next-requires : (t : ℕ) → branches-lts.Need-set-next-requires (branches-claims t) (branches-at t) branches.Post
 branches-set-next-requires t c κs = let same-branch = c .before .before .before .before .before .before .before .before .before .before .before .before .before in
-    let start = same-branch .before .before .before .before .before .before .before .before .before .before .before .before .before in (
+    let start = same-branch .before .before .before .before .before .before .before .before .before .before .before .before .before .before .before in (
       has-place (start .args .store .now) _ (start .pre .1 .1) _ (same-branch .visit .kept .1 .1 .1 .1 .1 .1 .1 .1 .0 ∙ same-branch .before .before .before .before .before .before .before .write .kept .0),
       number-fits (same-branch .visit .last .1 .1 .1 .1 .1 .1 .1 .1 .0) _ (omega (arith, c .before .before .capacity-of .ensures, c .before .if1 .left)),
     )
 
 branches-set-apart-requires : (t : ℕ) → branches-lts.Need-set-apart-requires (branches-claims t) (branches-at t) branches.Post
 branches-set-apart-requires t c κs = let same-branch = c .before .before .before .before .before .before .before .before .before .before .before .before .before .before .before .before .before in
-    let start = same-branch .before .before .before .before .before .before .before .before .before .before .before .before .before in
+    let start = same-branch .before .before .before .before .before .before .before .before .before .before .before .before .before .before .before in
     let path = start .pre .1 .2 .1 in
     let ok = start .pre .1 .0 .scannable .accepted in
     let small = split-small (path .0) ok _ _ (path .1) in
     (omega (arith, pair-room (path .0) ok _ _ (path .1), same-branch .visit .kept .1 .1 .1 .1 .1 .1 .0), small .0, small .1)
 
 branches-add-visit-3 : (t : ℕ) → branches-lts.Need-add-visit-3 (branches-claims t) (branches-at t) branches.Post
-branches-add-visit-3 t c = let start = c .before .before .before .before .before .before .before .before .before .before .before .before .before .before .before .before .before .before .before .before .before .before .before .before .before .before .before .before .before .before .before .before .before in
+branches-add-visit-3 t c = let start = c .before .before .before .before .before .before .before .before .before .before .before .before .before .before .before .before .before .before .before .before .before .before .before .before .before .before .before .before .before .before .before .before .before .before .before .before .before in
     let path = start .pre .1 .2 .1 .0 in
     record { fits = omega (arith, path .room, path .size) }
 
 branches-visit-requires-2 : (t : ℕ) → branches-lts.Need-visit-requires-2 (branches-claims t) (branches-at t) branches.Post
-branches-visit-requires-2 t c κs = let turned = c .before .before .before .before .before in
+branches-visit-requires-2 t c κs = let turned = c .before .before .before .before .before .before .before in
     let same-branch = turned .before .before .before .before .before .before .before .before .before .before .before .before .before .before .before .before .before .before in
-    let start = same-branch .before .before .before .before .before .before .before .before .before .before .before .before .before in
+    let start = same-branch .before .before .before .before .before .before .before .before .before .before .before .before .before .before .before in
     let path = start .pre .1 .2 .1 in
     let fewer = apart-less (path .0) (start .pre .1 .0 .scannable .accepted) _ _ (path .1) (same-branch .visit .last .1 .1 .1 .1 .1 .1 .0) (turned .set-apart .last .0)
     (same-branch .visit .kept .1 .1 .1 .1 .1 .1 .0) (same-branch .visit .ensures .1) (turned .set-apart .ensures) in (
@@ -230,11 +232,11 @@ branches-same-length-6 t c = search needs
 
 branches-returns-2 : (t : ℕ) → branches-lts.Need-returns-2 (branches-claims t) (branches-at t) branches.Post
 branches-returns-2 t c = let same-branch = c .before .before .before .before .before .before .before .before .before in
-    let start = same-branch .before .before .before .before .before .before .before .before .before .before .before .before .before in
+    let start = same-branch .before .before .before .before .before .before .before .before .before .before .before .before .before .before .before in
     let under-same = c .before .under-same in (
       (λ ds tree st e res v.
           split-met (split-tree v e) (start .args .before) (start .args .store .now) _ _ (start .args .grouping .now) _
-          (branches-written t same-branch) _ (branches-told t same-branch ds st e) (under-same .given .0 .0) (under-same .given .1)),
+          (branches-written t same-branch) _ (branches-told t same-branch ds st e res) (under-same .given .0 .0) (under-same .given .1)),
       same-branch .visit .ensures .1,
     )
 
@@ -249,10 +251,10 @@ branches-same-length-9 t c = search needs
 
 branches-returns-3 : (t : ℕ) → branches-lts.Need-returns-3 (branches-claims t) (branches-at t) branches.Post
 branches-returns-3 t c = let same-branch = c .before .before .before .before .before .before .before .before in
-    let start = same-branch .before .before .before .before .before .before .before .before .before .before .before .before .before in (
+    let start = same-branch .before .before .before .before .before .before .before .before .before .before .before .before .before .before .before in (
       (λ ds tree st e res v.
           split-full (split-tree v e) (start .args .before) (start .args .store .now) _ _ (start .args .grouping .now) _
-          (branches-written t same-branch) _ (branches-told t same-branch ds st e) (c .enum-told .given .1)),
+          (branches-written t same-branch) _ (branches-told t same-branch ds st e res) (c .enum-told .given .1)),
       same-branch .visit .ensures .1,
     )
 
@@ -263,23 +265,23 @@ branches-same-length-11 : (t : ℕ) → branches-lts.Need-same-length-11 (branch
 branches-same-length-11 t c = search needs
 
 branches-same-length-12 : (t : ℕ) → branches-lts.Need-same-length-12 (branches-claims t) (branches-at t) branches.Post
-branches-same-length-12 t c = c .before .before .before .before .before .before .visit2 .kept .1 .1 .1 .1 .1 .1 .1 .1 .0 ∙ c .before .before .before .before .before .before .before .before .before .before .before .before .before .before .before .before .set-next .kept .0 ∙ c .before .before .before .before .before .before .before .before .before .before .before .before .before .before .before .before .before .before .before .before .before .before .before .before .before .before .before .before .before .before .visit .kept .1 .1 .1 .1 .1 .1 .1 .1 .0 ∙ c .before .before .before .before .before .before .before .before .before .before .before .before .before .before .before .before .before .before .before .before .before .before .before .before .before .before .before .before .before .before .before .before .before .before .before .before .before .write .kept .0
+branches-same-length-12 t c = c .before .before .before .before .before .before .visit2 .kept .1 .1 .1 .1 .1 .1 .1 .1 .0 ∙ c .before .before .before .before .before .before .before .before .before .before .before .before .before .before .before .before .before .before .set-next .kept .0 ∙ c .before .before .before .before .before .before .before .before .before .before .before .before .before .before .before .before .before .before .before .before .before .before .before .before .before .before .before .before .before .before .before .before .visit .kept .1 .1 .1 .1 .1 .1 .1 .1 .0 ∙ c .before .before .before .before .before .before .before .before .before .before .before .before .before .before .before .before .before .before .before .before .before .before .before .before .before .before .before .before .before .before .before .before .before .before .before .before .before .before .before .write .kept .0
 
 branches-returns-4 : (t : ℕ) → branches-lts.Need-returns-4 (branches-claims t) (branches-at t) branches.Post
 branches-returns-4 t c = let apart-branch = c .before .before .before .before .before .before .visit2 in
-    let turned = c .before .before .before .before .before .before .before .before .before .before .before .before in
-    let next = c .before .before .before .before .before .before .before .before .before .before .before .before .before .before .before .before .set-next in
-    let under-same = c .before .before .before .before .before .before .before .before .before .before .before .before .before .before .before .before .before .before .before .before .before .before .under-same2 .given in
-    let same-branch = c .before .before .before .before .before .before .before .before .before .before .before .before .before .before .before .before .before .before .before .before .before .before .before .before .before .before .before .before .before .before in
-    let start = same-branch .before .before .before .before .before .before .before .before .before .before .before .before .before in
+    let turned = c .before .before .before .before .before .before .before .before .before .before .before .before .before .before in
+    let next = c .before .before .before .before .before .before .before .before .before .before .before .before .before .before .before .before .before .before .set-next in
+    let under-same = c .before .before .before .before .before .before .before .before .before .before .before .before .before .before .before .before .before .before .before .before .before .before .before .before .under-same2 .given in
+    let same-branch = c .before .before .before .before .before .before .before .before .before .before .before .before .before .before .before .before .before .before .before .before .before .before .before .before .before .before .before .before .before .before .before .before in
+    let start = same-branch .before .before .before .before .before .before .before .before .before .before .before .before .before .before .before in
     let place : start .args .before + 1 - 1 ≡ start .args .before = omega arith in (
       (λ ds tree st e res v.
           split-apart (split-tree v e) (start .args .before) (start .args .store .now) _ (same-branch .visit .last .1 .1 .1 .1 .1 .1 .1 .1 .0) (start .args .grouping .now) _
-          (branches-written t same-branch) _ (branches-told t same-branch ds st e) (under-same .0 .0) (under-same .1)
+          (branches-written t same-branch) _ (branches-told t same-branch ds st e res) (under-same .0 .0) (under-same .1)
           (next .last .0) _ _ _
           (next .ensures ∙ ap (λ (k : ℕ). sets (same-branch .visit .last .1 .1 .1 .1 .1 .1 .1 .1 .0) (recordLength * k + 6) (twoBytes (under-same .0 .0 + 1))) place)
           (λ u w. apart-branch .ensures .0 _ u (branches-apart t turned ds st e) res w)),
-      untouched-through (start .args .pairs .now) (same-branch .visit .last .1 .1 .1 .1 .1 .1 .0) (turned .set-apart .last .0) (apart-branch .last .1 .1 .1 .1 .1 .1 .0) (start .args .count) (start .args .a .0) (start .args .b .0)
+      untouched-through (start .args .pairs .now) (same-branch .visit .last .1 .1 .1 .1 .1 .1 .0) (turned .set-apart .last .0) (apart-branch .last .1 .1 .1 .1 .1 .1 .0) (start .args .count) (start .args .on .a .0) (start .args .on .b .0)
           (same-branch .visit .ensures .1) (turned .set-apart .ensures) (apart-branch .ensures .1),
     )
 
@@ -321,13 +323,13 @@ visit-returns t c = let start = c .before .before .before .before .before .befor
 visit-node-at-requires : (t : ℕ) → visit-lts.Need-node-at-requires (visit-claims t) (visit-at t) visit.Post
 visit-node-at-requires t c κs = let start = c .before .before .before .before .before .before .before .before in
     let path = start .pre .1 .1 in
-    (start .pre .1 .0 .scannable, pairs-within (path .1 .0), starts-within (start .args .sheet .now) (start .args .from) (path .0) (path .1 .1))
+    (start .pre .1 .0 .scannable, pairs-within (path .1 .0), starts-within (start .args .sheet .now) (start .args .map .lots) (start .args .from) (path .0) (path .1 .0 .represents .lots) (path .1 .1))
 
 visit-enum-told : (t : ℕ) → visit-lts.Need-enum-told (visit-claims t) (visit-at t) visit.Post
 visit-enum-told t c = search needs
 
-visit-add-t27 : (t : ℕ) → visit-lts.Need-add-t27 (visit-claims t) (visit-at t) visit.Post
-visit-add-t27 t c = search needs
+visit-add-t24 : (t : ℕ) → visit-lts.Need-add-t24 (visit-claims t) (visit-at t) visit.Post
+visit-add-t24 t c = search needs
 
 visit-write-requires : (t : ℕ) → visit-lts.Need-write-requires (visit-claims t) (visit-at t) visit.Post
 visit-write-requires t c κs = let start = c .before .before .before .before .before .before .before .before .before .before .before .before in
@@ -337,21 +339,21 @@ visit-write-grouping-requires : (t : ℕ) → visit-lts.Need-write-grouping-requ
 visit-write-grouping-requires t c κs = let start = c .before .before .before .before .before .before .before .before .before .before .before .before .before .before .before .before in
     (start .pre .1 .0 .lots, entries-within (start .pre .1 .1 .1 .0))
 
-visit-add-t27-2 : (t : ℕ) → visit-lts.Need-add-t27-2 (visit-claims t) (visit-at t) visit.Post
-visit-add-t27-2 t c = search needs
+visit-add-t24-2 : (t : ℕ) → visit-lts.Need-add-t24-2 (visit-claims t) (visit-at t) visit.Post
+visit-add-t24-2 t c = search needs
 
 visit-enum-known-node : (t : ℕ) → visit-lts.Need-enum-known-node (visit-claims t) (visit-at t) visit.Post
 visit-enum-known-node t c = search needs
 
-visit-add-t35 : (t : ℕ) → visit-lts.Need-add-t35 (visit-claims t) (visit-at t) visit.Post
-visit-add-t35 t c = search needs
+visit-add-t32 : (t : ℕ) → visit-lts.Need-add-t32 (visit-claims t) (visit-at t) visit.Post
+visit-add-t32 t c = search needs
 
 visit-write-requires-2 : (t : ℕ) → visit-lts.Need-write-requires-2 (visit-claims t) (visit-at t) visit.Post
 visit-write-requires-2 t c κs = let start = c .before .before .before .before .before .before .before .before .before .before .before .before .before in
     (has-place (start .args .store .now) (start .args .before) (visit-room t (c .before .before .before .before .before .before)) (start .args .store .now) refl, tt)
 
-visit-add-t35-2 : (t : ℕ) → visit-lts.Need-add-t35-2 (visit-claims t) (visit-at t) visit.Post
-visit-add-t35-2 t c = search needs
+visit-add-t32-2 : (t : ℕ) → visit-lts.Need-add-t32-2 (visit-claims t) (visit-at t) visit.Post
+visit-add-t32-2 t c = search needs
 
 visit-enum-known-node-2 : (t : ℕ) → visit-lts.Need-enum-known-node-2 (visit-claims t) (visit-at t) visit.Post
 visit-enum-known-node-2 t c = search needs
@@ -441,7 +443,7 @@ pub +branches+visit-spec : {M : Type 1} → statement M
     (branches-same-length-2 t)
     (branches-same-length-3 t)
     (branches-returns t)
-    (branches-add-t40 t)
+    (branches-add-t41 t)
     (branches-set-next-requires t)
     (branches-set-apart-requires t)
     (branches-add-visit-3 t)
@@ -477,14 +479,14 @@ pub +branches+visit-spec : {M : Type 1} → statement M
     (visit-returns t)
     (visit-node-at-requires t)
     (visit-enum-told t)
-    (visit-add-t27 t)
+    (visit-add-t24 t)
     (visit-write-requires t)
     (visit-write-grouping-requires t)
-    (visit-add-t27-2 t)
+    (visit-add-t24-2 t)
     (visit-enum-known-node t)
-    (visit-add-t35 t)
+    (visit-add-t32 t)
     (visit-write-requires-2 t)
-    (visit-add-t35-2 t)
+    (visit-add-t32-2 t)
     (visit-enum-known-node-2 t)
     (visit-branches-requires t)
     (visit-same-length-2 t)

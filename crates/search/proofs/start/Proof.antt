@@ -6,7 +6,7 @@ use Rattle.sheet.specs.Conditions.{conditions}
 use Rattle.equality.specs.Search.{searchTree}
 use Rattle.equality.proofs.Small.{conditions-small}
 use Rattle.equality.proofs.Visits.{search-visits}
-use Rattle.search.proofs.Standing.{start-standing}
+use Rattle.search.proofs.Standing.{start-standing, start-resumes}
 use Rattle.search.proofs.start.Statement.{statement}
 use Rattle.search.proofs.start.Tie as tie
 
@@ -19,7 +19,7 @@ slice-aggregate-visit c = search needs
 visit-requires : tie.Need-visit-requires
 visit-requires c κs =
     let begin = c .before .before .before .before .before .before .before in
-    (begin .pre, ([], (start-standing (begin .args .sheet .now) (begin .pre .scannable .accepted) _ _ (c .before .before .before .new .ensures) refl, tt)))
+    (begin .pre, ([], (start-standing (begin .args .sheet .now) (begin .pre .scannable .accepted) _ _ (c .before .before .before .new .ensures) refl, start-resumes (begin .args .sheet .now))))
 
 same-length : tie.Need-same-length
 same-length c = search needs
@@ -32,7 +32,8 @@ returns c =
     let begin = c .before .before .before .before .before .before .before .before .before .before .before .before .before in
     let ok = begin .pre .scannable .accepted in
     c .before .before .before .before .before .visit .ensures .0 [] (searchTree (conditions (begin .args .sheet .now)))
-    (start-standing (begin .args .sheet .now) ok _ _ (c .before .before .before .before .before .before .before .before .before .new .ensures) refl) tt
+    (start-standing (begin .args .sheet .now) ok _ _ (c .before .before .before .before .before .before .before .before .before .new .ensures) refl)
+    (start-resumes (begin .args .sheet .now))
     (search-visits (conditions (begin .args .sheet .now)) (conditions-small (begin .args .sheet .now) ok))
 
 pub start-spec : {M : Type 1} → statement M
