@@ -16,7 +16,7 @@ use path::Split;
 use sheet::Lot;
 
 // The bytes of a path's maps: no path joins more often than there are lots.
-pub const MAPS_LENGTH: usize = 16641;
+pub const MAPS_LENGTH: usize = ENTRIES * ENTRIES;
 
 // The first row: every lot alone.
 pub fn start(maps: &mut [u8])
