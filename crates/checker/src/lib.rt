@@ -308,19 +308,8 @@ fn walk(
     let mut depth: usize = 0;
     let mut r: u32 = 1;
     while r <= count {
-        let step = record_step(
-            sheet,
-            n,
-            m,
-            list,
-            path,
-            depth,
-            maps,
-            levels,
-            table,
-            r,
-            r == count,
-        );
+        let last = r == count;
+        let step = record_step(sheet, n, m, list, path, depth, maps, levels, table, r, last);
         match step {
             Step::Passes => return Verdict::Passes,
             Step::Refuses(check, place) => return Verdict::Refuses(check, place),
