@@ -1,7 +1,7 @@
 // The refutation checker: whether a list of records, from any hand, refutes a sheet.
 ghost use mathlib.Core.Path.{_≡_};
 ghost use mathlib.Core.Bool.{not, _||_};
-ghost use Prim.Native.Nat.{ℕ, _+_, _/_, _%_, _≤_};
+ghost use Prim.Native.Nat.{ℕ, _+_, _*_, _/_, _%_, _≤_, _<_};
 ghost use lib.Dec.{ltb, eqb};
 ghost use lib.ListN.{length};
 ghost use Rattle.sheet.specs.Format.{mostLots, lotCount, recordCount};
@@ -12,7 +12,7 @@ ghost use mathlib.Core.List.{List};
 ghost use Rattle.store.specs.Records.{splitRecord, groundRecord, recordAt, recordLength, mostNodes};
 ghost use Rattle.store.specs.Code.{HasPlace};
 ghost use Rattle.refutation.specs.Refutation.{decisionsOf, groundFails, nearest, afterGround, named, walkRecord, walkVerdict, checkAnswer};
-ghost use Rattle.path.specs.Paths.{pathOf, PathWithin};
+ghost use Rattle.path.specs.Paths.{splitLength, pathOf, PathWithin};
 ghost use Rattle.levels.specs.Levels.{Walkable};
 ghost use Rattle.checker.specs.Answers.{checkedAnswer, PassedExactly, PassedMeans};
 ghost use Rattle.checker.specs.Steps.{Rest, WalkRest, stepAs, noneLeft, GoesOn};
@@ -158,7 +158,7 @@ fn ground_holds(
 
 // After a ground, at record r: the nearest split still in its same branch is turned, if its next is the following record; with no such split the list must end.
 fn after_ground(path: &mut [u32], depth: usize, levels: &mut [u8], r: u32, last: bool) -> Step
-    requires { ⌜ ((maps : List ℕ) × Walkable (now path) maps (now levels) depth) × (r ≤ mostNodes) ⌝ }
+    requires { ⌜ (splitLength * depth ≤ length (now path)) × (depth < length (now levels)) × (r ≤ mostNodes) ⌝ }
     ensures walk { λ v. ⌜ ((walkRest : WalkRest) (rest : Rest) → last ≡ noneLeft rest
         → afterGround walkRest rest (r + 1) (nearest (pathOf (now (path .entry)) depth)) ≡ stepAs walkRest (r + 1) (now (path .exit)) v) ⌝ }
     ensures path { λ v. ⌜ ((maps : List ℕ) → Walkable (now (path .entry)) maps (now (levels .entry)) depth → GoesOn (now (path .exit)) maps (now (levels .exit)) v) ⌝ }
@@ -308,19 +308,8 @@ fn walk(
     let mut depth: usize = 0;
     let mut r: u32 = 1;
     while r <= count {
-        let step = record_step(
-            sheet,
-            n,
-            m,
-            list,
-            path,
-            depth,
-            maps,
-            levels,
-            table,
-            r,
-            r == count,
-        );
+        let last = r == count;
+        let step = record_step(sheet, n, m, list, path, depth, maps, levels, table, r, last);
         match step {
             Step::Passes => return Verdict::Passes,
             Step::Refuses(check, place) => return Verdict::Refuses(check, place),

@@ -3,20 +3,20 @@
 ghost use mathlib.Core.Path.{_≡_};
 ghost use mathlib.Core.Bool.{false, cond, _||_};
 ghost use mathlib.Core.List.{List, [], _∷_};
-ghost use Prim.Native.Nat.{ℕ, _+_, _-_, _≤_, _<_, min};
+ghost use Prim.Native.Nat.{ℕ, _+_, _-_, _*_, _≤_, _<_, min};
 ghost use lib.Dec.{eqb};
 ghost use lib.ListN.{length};
 ghost use Rattle.sheet.specs.Format.{mostLots};
 ghost use Rattle.equality.specs.Node.{merged, classOf, classes};
 ghost use Rattle.refutation.specs.Refutation.{mostSplits, turned};
-ghost use Rattle.path.specs.Paths.{splitIn, firstLotIn, secondLotIn, pathOf, splitOf};
+ghost use Rattle.path.specs.Paths.{splitLength, splitIn, firstLotIn, secondLotIn, pathOf, splitOf};
 ghost use Rattle.levels.specs.Levels.{mapsLength, row, levelUnder, Walkable};
 use classes::ENTRIES;
 use path::Split;
 use sheet::Lot;
 
 // The bytes of a path's maps: no path joins more often than there are lots.
-pub const MAPS_LENGTH: usize = 16641;
+pub const MAPS_LENGTH: usize = ENTRIES * ENTRIES;
 
 // The first row: every lot alone.
 pub fn start(maps: &mut [u8])
@@ -102,7 +102,7 @@ pub fn push(
 
 // The top split goes to its apart branch: the level is again the one above it.
 pub fn turn(path: &mut [u32], depth: usize, levels: &mut [u8])
-    requires { ⌜ (0 < depth) × ((maps : List ℕ) × Walkable (now path) maps (now levels) depth) ⌝ }
+    requires { ⌜ (0 < depth) × (splitLength * depth ≤ length (now path)) × (depth < length (now levels)) ⌝ }
     ensures path { λ _. ⌜ pathOf (now (path .exit)) depth
         ≡ turned (splitIn (now (path .entry)) (depth - 1)) (firstLotIn (now (path .entry)) (depth - 1)) (secondLotIn (now (path .entry)) (depth - 1))
         ∷ pathOf (now (path .entry)) (depth - 1) ⌝ }

@@ -14,7 +14,7 @@ use Rattle.checker.proofs.after_ground.Statement.{statement}
 use Rattle.checker.proofs.after_ground.Tie as tie
 
 nearest-requires : tie.Need-nearest-requires
-nearest-requires c κs = c .before .before .before .pre .0 .1 .within .within
+nearest-requires c κs = search needs
 
 add-t14 : tie.Need-add-t14
 add-t14 c = search needs
@@ -45,13 +45,13 @@ found c maps w =
     (walkable-less w (c .nearest .result) (c .nearest .ensures .0))
 
 next-of-requires : tie.Need-next-of-requires
-next-of-requires c κs = (omega (arith, c .before .if1 .left), found (c .before .before .before .before) (c .before .before .before .before .before .before .before .before .pre .0 .0) (c .before .before .before .before .before .before .before .before .pre .0 .1) .within .within)
+next-of-requires c κs = search needs
 
 add-if3 : tie.Need-add-if3
 add-if3 c = search needs
 
 number-of-requires : tie.Need-number-of-requires
-number-of-requires c κs = (omega (arith, c .before .before .before .before .before .if1 .left), found (c .before .before .before .before .before .before .before .before) (c .before .before .before .before .before .before .before .before .before .before .before .before .pre .0 .0) (c .before .before .before .before .before .before .before .before .before .before .before .before .pre .0 .1) .within .within)
+number-of-requires c κs = search needs
 
 same-length-3 : tie.Need-same-length-3
 same-length-3 c = search needs
@@ -67,7 +67,7 @@ returns-3 c = let top = c .before .before .before .before .before .before .befor
     )
 
 turn-requires : tie.Need-turn-requires
-turn-requires c κs = (omega (arith, c .before .before .before .before .before .before .if1 .left), (c .before .before .before .before .before .before .before .before .before .before .before .before .before .pre .0 .0, found (c .before .before .before .before .before .before .before .before .before) (c .before .before .before .before .before .before .before .before .before .before .before .before .before .pre .0 .0) (c .before .before .before .before .before .before .before .before .before .before .before .before .before .pre .0 .1)))
+turn-requires c κs = search needs
 
 same-length-4 : tie.Need-same-length-4
 same-length-4 c = search needs

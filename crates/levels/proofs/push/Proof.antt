@@ -17,7 +17,7 @@ join-requires c κs = let start = c .before .before .before .before .before in
     (w .rows, top-level w, start .pre .2, start .pre .3, top-room w (start .args .split .a .0) (start .args .split .b .0) (start .pre .2) (start .pre .3))
 
 cast-levels : tie.Need-cast-levels
-cast-levels c = omega (arith, c .before .before .join .ensures .0)
+cast-levels c = omega (arith, c .before .before .join .ensures .0, c .before .before .before .before .slice-known4 .given (c .before .before .before .before .before .before .before .before .args .depth))
 
 add-levels : tie.Need-add-levels
 add-levels c = search needs
