@@ -19,7 +19,7 @@ use Rattle.equality.proofs.Least.{least}
 use Rattle.equality.proofs.Some.{some-agree}
 use Rattle.refutation.specs.Refutation.{notFalse, groundFails, named}
 use Rattle.refutation.proofs.Sound.{all-nth}
-use Rattle.checker.specs.Table.{cell, Unmarked, stamped, ClassesWithin, ClassMap, mayHold}
+use Rattle.checker.specs.Table.{cell, Unmarked, stamped, ClassesWithin, ClassMap, allows}
 use Rattle.checker.proofs.Marks.{marks-say}
 
 -- The classes of a path are lots, and so they are a class map.
@@ -35,7 +35,7 @@ module _ (ds : Decisions) (small : All Small ds) (table : List ℕ) (none : Unma
   by-marks a b ha hb =
       marks-say (classes ds) (classes-within ds) ds small table none (classOf (classes ds) a) (classOf (classes ds) b) (classes-within ds a ha) (classes-within ds b hb)
 
-  term-agrees : (t : Term) → Small t → mayHold (classes ds) (stamped 1 (classes ds) ds table) t ≡ notFalse (value ds t)
+  term-agrees : (t : Term) → Small t → allows (classes ds) (stamped 1 (classes ds) ds table) t ≡ notFalse (value ds t)
   unfolding value
   term-agrees (same a b) h = ap (λ (m : Bool). share ds a b || not m) (by-marks a b (h .0) (h .1)) ∙ go (share ds a b) (markedApart ds a b)
     where
@@ -57,9 +57,9 @@ module _ (ds : Decisions) (small : All Small ds) (table : List ℕ) (none : Unma
         conditions-at s (c - 1) (omega arith) ∙ ap (conditionAt s) number
 
     -- A ground's condition, by its chain.
-    pub ground-agrees : someTerm (mayHold (classes ds) (stamped 1 (classes ds) ds table)) (termsFrom s (headAt s c)) ≡ groundFails ds (named s c)
+    pub ground-agrees : someTerm (allows (classes ds) (stamped 1 (classes ds) ds table)) (termsFrom s (headAt s c)) ≡ groundFails ds (named s c)
     unfolding groundFails
     ground-agrees =
-        ap (someTerm (mayHold (classes ds) (stamped 1 (classes ds) ds table))) (sym named-at)
-        ∙ some-agree (mayHold (classes ds) (stamped 1 (classes ds) ds table)) (λ t. notFalse (value ds t)) (named s c)
+        ap (someTerm (allows (classes ds) (stamped 1 (classes ds) ds table))) (sym named-at)
+        ∙ some-agree (allows (classes ds) (stamped 1 (classes ds) ds table)) (λ t. notFalse (value ds t)) (named s c)
         (all-map term-agrees (named s c) (all-nth (All Small) (conditions s) [] (conditions-small s ok) (c - 1) (omega (arith, conditions-length s))))

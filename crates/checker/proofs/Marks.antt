@@ -17,7 +17,7 @@ use Rattle.equality.proofs.Small.{Small}
 use Rattle.refutation.specs.Refutation.{decisionsOf}
 use Rattle.path.specs.declared.Pair.{Pair}
 use Rattle.path.specs.Paths.{splitIn, pathOf, decisionOf}
-use Rattle.checker.specs.Table.{rowLength, tableLength, cell, Unmarked, stampClasses, stamped, ClassesWithin, mayHoldBy, mayHold}
+use Rattle.checker.specs.Table.{rowLength, tableLength, cell, Unmarked, stampClasses, stamped, ClassesWithin, allowsClasses, allows}
 
 -- ---- one cell
 
@@ -122,10 +122,10 @@ module _ (cs : List ℕ) (within : ClassesWithin cs) (ds : Decisions) (small : A
           ∙ by (marked cs ds x y)
 
 -- The test on a term, by its sign.
-pub may-hold-term : (cs table : List ℕ) (sign a b : ℕ) → mayHold cs table (termOf sign a b) ≡ mayHoldBy table (eqb sign 1) (classOf cs a) (classOf cs b)
-may-hold-term cs table sign a b = go (eqb sign 1)
+pub allows-term : (cs table : List ℕ) (sign a b : ℕ) → allows cs table (termOf sign a b) ≡ allowsClasses table (eqb sign 1) (classOf cs a) (classOf cs b)
+allows-term cs table sign a b = go (eqb sign 1)
   where
-    go : (p : Bool) → mayHold cs table (cond p (same a b) (apart a b)) ≡ mayHoldBy table p (classOf cs a) (classOf cs b)
+    go : (p : Bool) → allows cs table (cond p (same a b) (apart a b)) ≡ allowsClasses table p (classOf cs a) (classOf cs b)
     go true = refl
     go false = refl
 

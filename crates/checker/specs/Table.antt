@@ -47,12 +47,12 @@ pub record ClassMap (cs : List ℕ) : Type 0 where
 
 -- A term is not false, by the classes x and y of its lots and a table of marks: a "same" term whose lots share a class or whose classes are not marked, an
 -- "apart" term whose lots share none.
-abbrev pub mayHoldBy : List ℕ → Bool → ℕ → ℕ → Bool
-mayHoldBy table isSame x y = cond isSame (eqb x y || not (eqb (getD table (cell x y) 0) 1)) (not (eqb x y))
+abbrev pub allowsClasses : List ℕ → Bool → ℕ → ℕ → Bool
+allowsClasses table isSame x y = cond isSame (eqb x y || not (eqb (getD table (cell x y) 0) 1)) (not (eqb x y))
 
-abbrev pub mayHold : List ℕ → List ℕ → Term → Bool
-mayHold cs table (same a b) = mayHoldBy table true (classOf cs a) (classOf cs b)
-mayHold cs table (apart a b) = mayHoldBy table false (classOf cs a) (classOf cs b)
+abbrev pub allows : List ℕ → List ℕ → Term → Bool
+allows cs table (same a b) = allowsClasses table true (classOf cs a) (classOf cs b)
+allows cs table (apart a b) = allowsClasses table false (classOf cs a) (classOf cs b)
 
 -- The sheet is accepted, and has m conditions.
 pub record Checkable (s : List ℕ) (m : ℕ) : Type 0 where

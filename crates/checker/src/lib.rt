@@ -16,7 +16,7 @@ ghost use Rattle.path.specs.Paths.{splitLength, pathOf, PathWithin};
 ghost use Rattle.levels.specs.Levels.{Walkable};
 ghost use Rattle.checker.specs.Answers.{checkedAnswer, PassedExactly, PassedMeans};
 ghost use Rattle.checker.specs.Steps.{Rest, WalkRest, stepAs, noneLeft, GoesOn};
-ghost use Rattle.checker.specs.Table.{tableLength, Unmarked, stamped, ClassMap, mayHold, mayHoldBy, Checkable};
+ghost use Rattle.checker.specs.Table.{tableLength, Unmarked, stamped, ClassMap, allows, allowsClasses, Checkable};
 use sheet::Condition;
 use sheet::Lot;
 use sheet::Reading;
@@ -75,9 +75,9 @@ fn stamp(table: &mut [u8], path: &[u32], depth: usize, lots: &[u8], value: u8)
 }
 
 // Whether a term of a sign, whose lots have the classes x and y, is true or open.
-fn may_hold(table: &[u8], sign: u8, x: u8, y: u8) -> bool
+fn allows(table: &[u8], sign: u8, x: u8, y: u8) -> bool
     requires { ⌜ (length (now table) ≡ tableLength) × (x ≤ mostLots) × (y ≤ mostLots) ⌝ }
-    ensures { λ r. ⌜ r ≡ mayHoldBy (now (table .entry)) (eqb sign 1) x y ⌝ }
+    ensures { λ r. ⌜ r ≡ allowsClasses (now (table .entry)) (eqb sign 1) x y ⌝ }
 {
     if sign == SAME {
         x == y || table[ROW_LENGTH * (x as usize) + (y as usize)] != 1
@@ -89,14 +89,14 @@ fn may_hold(table: &[u8], sign: u8, x: u8, y: u8) -> bool
 // Whether every term of the chain from a record on is false.
 fn all_false(sheet: &[u8], m: u16, lots: &[u8], table: &[u8], head: Record) -> bool
     requires { ⌜ Checkable (now sheet) m × ClassMap (now lots) × (length (now table) ≡ tableLength) × (head .0 ≤ recordCount (now sheet)) ⌝ }
-    ensures { λ r. ⌜ r ≡ not (someTerm (mayHold (now (lots .entry)) (now (table .entry))) (termsFrom (now (sheet .entry)) (head .0))) ⌝ }
+    ensures { λ r. ⌜ r ≡ not (someTerm (allows (now (lots .entry)) (now (table .entry))) (termsFrom (now (sheet .entry)) (head .0))) ⌝ }
 {
     let mut at = head;
     while at.0 != 0 {
         let t = sheet::format::term_at(sheet, m, at);
         let a = t.a.0 as usize;
         let b = t.b.0 as usize;
-        if may_hold(table, t.sign, lots[a], lots[b]) {
+        if allows(table, t.sign, lots[a], lots[b]) {
             return false;
         }
         at = t.next;
@@ -109,8 +109,8 @@ fn all_false(sheet: &[u8], m: u16, lots: &[u8], table: &[u8], head: Record) -> b
 fn past_apart(sheet: &[u8], m: u16, lots: &[u8], head: Record) -> Record
     requires { ⌜ Checkable (now sheet) m × ClassMap (now lots) × (head .0 ≤ recordCount (now sheet)) ⌝ }
     ensures within { λ r. ⌜ r .0 ≤ recordCount (now (sheet .entry)) ⌝ }
-    ensures rest { λ r. ⌜ ((table : List ℕ) → someTerm (mayHold (now (lots .entry)) table) (termsFrom (now (sheet .entry)) (head .0))
-        ≡ someTerm (mayHold (now (lots .entry)) table) (termsFrom (now (sheet .entry)) (r .0))) ⌝ }
+    ensures rest { λ r. ⌜ ((table : List ℕ) → someTerm (allows (now (lots .entry)) table) (termsFrom (now (sheet .entry)) (head .0))
+        ≡ someTerm (allows (now (lots .entry)) table) (termsFrom (now (sheet .entry)) (r .0))) ⌝ }
 {
     let mut at = head;
     while at.0 != 0 {
@@ -130,7 +130,7 @@ fn past_apart(sheet: &[u8], m: u16, lots: &[u8], head: Record) -> Record
 
 // Whether every term of a condition is false under the path. The pairs that the path sets apart are marked in the table for the test alone, from the first
 // term on that a mark may decide: it costs the condition's terms and, with such a term, the path's splits, not their product.
-fn ground_holds(
+fn ground_passes(
     sheet: &[u8],
     m: u16,
     path: &[u32],
@@ -141,7 +141,7 @@ fn ground_holds(
     c: Condition,
 ) -> bool
     requires { ⌜ Checkable (now sheet) m × (1 ≤ c .0) × (c .0 ≤ m) × Walkable (now path) (now maps) (now levels) depth × Unmarked (now table) ⌝ }
-    ensures holds { λ r. ⌜ r ≡ not (groundFails (decisionsOf (pathOf (now (path .entry)) depth)) (named (now (sheet .entry)) (c .0))) ⌝ }
+    ensures passes { λ r. ⌜ r ≡ not (groundFails (decisionsOf (pathOf (now (path .entry)) depth)) (named (now (sheet .entry)) (c .0))) ⌝ }
     ensures table { λ r. ⌜ Unmarked (now (table .exit)) ⌝ }
 {
     let lots = levels::top(maps, levels, depth);
@@ -151,9 +151,9 @@ fn ground_holds(
         return true;
     }
     stamp(table, path, depth, lots, 1);
-    let holds = all_false(sheet, m, lots, table, at);
+    let passes = all_false(sheet, m, lots, table, at);
     stamp(table, path, depth, lots, 0);
-    holds
+    passes
 }
 
 // After a ground, at record r: the nearest split still in its same branch is turned, if its next is the following record; with no such split the list must end.
@@ -244,7 +244,7 @@ fn ground_step(
     if c.0 == 0 || m < c.0 {
         return Step::Refuses(11, r);
     }
-    if !ground_holds(sheet, m, path, depth, maps, levels, table, c) {
+    if !ground_passes(sheet, m, path, depth, maps, levels, table, c) {
         return Step::Refuses(12, r);
     }
     after_ground(path, depth, levels, r, last)

@@ -13,19 +13,19 @@ use Rattle.sheet.proofs.Accepted.{SoundRecord, sound, has-record}
 use Rattle.sheet.proofs.ChainEnds.{rest-shorter}
 use Rattle.equality.specs.Node.{classOf}
 use Rattle.equality.proofs.Passing.{Passing, passing-start, found, passing-next, ended}
-use Rattle.checker.specs.Table.{mayHold, mayHoldBy}
-use Rattle.checker.proofs.Marks.{may-hold-term}
+use Rattle.checker.specs.Table.{allows, allowsClasses}
+use Rattle.checker.proofs.Marks.{allows-term}
 use Rattle.checker.proofs.all_false.Statement.{statement}
 use Rattle.checker.proofs.all_false.Tie as tie
 
 abbrev Inv-loop : tie.InvT-loop
-Inv-loop sheet m lots table at₀ at = Passing (mayHold lots table) sheet (at₀ .0) (at .0)
+Inv-loop sheet m lots table at₀ at = Passing (allows lots table) sheet (at₀ .0) (at .0)
 
 abbrev μ-loop : tie.MeasureT-loop
 μ-loop sheet m lots table at₀ at = length (recordsFrom sheet (at .0))
 
 loop-holds : tie.Need-loop-holds Inv-loop μ-loop
-loop-holds c = passing-start (mayHold _ _) _ _ (c .before .before .before .pre .3)
+loop-holds c = passing-start (allows _ _) _ _ (c .before .before .before .pre .3)
 
 -- In a turn: the record is one of the sheet's,
 record-number : (c : tie.Then1 Inv-loop μ-loop) → 1 ≤ c .before .before .loop .at .0
@@ -56,32 +56,32 @@ cast-a c = search needs
 cast-b : tie.Need-cast-b Inv-loop μ-loop
 cast-b c = search needs
 
-shared-slice-read-may-hold : tie.Need-shared-slice-read-may-hold Inv-loop μ-loop
-shared-slice-read-may-hold c = omega (arith, first-entry (c .before .before .before), c .before .before .before .before .before .before .before .before .before .before .pre .1 .size)
+shared-slice-read-allows : tie.Need-shared-slice-read-allows Inv-loop μ-loop
+shared-slice-read-allows c = omega (arith, first-entry (c .before .before .before), c .before .before .before .before .before .before .before .before .before .before .pre .1 .size)
 
-shared-slice-read-may-hold-2 : tie.Need-shared-slice-read-may-hold-2 Inv-loop μ-loop
-shared-slice-read-may-hold-2 c = omega (arith, second-entry (c .before .before .before .before), c .before .before .before .before .before .before .before .before .before .before .before .pre .1 .size)
+shared-slice-read-allows-2 : tie.Need-shared-slice-read-allows-2 Inv-loop μ-loop
+shared-slice-read-allows-2 c = omega (arith, second-entry (c .before .before .before .before), c .before .before .before .before .before .before .before .before .before .before .before .pre .1 .size)
 
-may-hold-requires : tie.Need-may-hold-requires Inv-loop μ-loop
-may-hold-requires c κs = let start = c .before .before .before .before .before .before .before .before .before .before .before in
+allows-requires : tie.Need-allows-requires Inv-loop μ-loop
+allows-requires c κs = let start = c .before .before .before .before .before .before .before .before .before .before .before in
     (start .pre .2, start .pre .1 .within _ (first-entry (c .before .before .before .before)), start .pre .1 .within _ (second-entry (c .before .before .before .before)))
 
--- What `may_hold` answers is whether the record's term is true or open.
-answer : (c : tie.After-may-hold Inv-loop μ-loop)
-    → mayHold (c .before .before .before .before .before .before .before .before .before .before .before .before .args .lots .now) (c .before .before .before .before .before .before .before .before .before .before .before .before .args .table .now) (termAt (c .before .before .before .before .before .before .before .before .before .before .before .before .args .sheet .now) (c .before .before .before .before .before .before .before .before .loop .at .0)) ≡ c .may-hold .result
+-- What `allows` answers is whether the record's term is true or open.
+answer : (c : tie.After-allows Inv-loop μ-loop)
+    → allows (c .before .before .before .before .before .before .before .before .before .before .before .before .args .lots .now) (c .before .before .before .before .before .before .before .before .before .before .before .before .args .table .now) (termAt (c .before .before .before .before .before .before .before .before .before .before .before .before .args .sheet .now) (c .before .before .before .before .before .before .before .before .loop .at .0)) ≡ c .allows .result
 answer c =
     let start = c .before .before .before .before .before .before .before .before .before .before .before .before in
     let s = start .args .sheet .now in
     let r = c .before .before .before .before .before .before .before .before .loop .at .0 in
-    may-hold-term (start .args .lots .now) (start .args .table .now) (signAt s r) (firstLotAt s r) (secondLotAt s r)
-    ∙ ap (λ (t : Term). mayHoldBy (start .args .table .now) (eqb (t .sign) 1) (classOf (start .args .lots .now) (t .a .0)) (classOf (start .args .lots .now) (t .b .0))) (sym (c .before .before .before .before .before .term-at .ensures))
-    ∙ sym (c .may-hold .ensures)
+    allows-term (start .args .lots .now) (start .args .table .now) (signAt s r) (firstLotAt s r) (secondLotAt s r)
+    ∙ ap (λ (t : Term). allowsClasses (start .args .table .now) (eqb (t .sign) 1) (classOf (start .args .lots .now) (t .a .0)) (classOf (start .args .lots .now) (t .b .0))) (sym (c .before .before .before .before .before .term-at .ensures))
+    ∙ sym (c .allows .ensures)
 
 returns : tie.Need-returns Inv-loop μ-loop
 returns c = let start = c .before .before .before .before .before .before .before .before .before .before .before .before .before in
     ap not
     (sym
-    (found (mayHold (start .args .lots .now) (start .args .table .now)) (start .args .sheet .now) (start .pre .0 .accepted) (start .args .head .0) (c .before .before .before .before .before .before .before .before .before .loop .at .0) (c .before .before .before .before .before .before .before .before .before .loop .inv)
+    (found (allows (start .args .lots .now) (start .args .table .now)) (start .args .sheet .now) (start .pre .0 .accepted) (start .args .head .0) (c .before .before .before .before .before .before .before .before .before .loop .at .0) (c .before .before .before .before .before .before .before .before .before .loop .inv)
     (record-number (c .before .before .before .before .before .before .before))
     (answer (c .before) ∙ c .if2 .taken)))
 
@@ -93,7 +93,7 @@ loop-less c = let start = c .before .before .before .before .before .before .bef
 loop-again : tie.Need-loop-again Inv-loop μ-loop
 loop-again c = let start = c .before .before .before .before .before .before .before .before .before .before .before .before .before .before in
     rw (c .before .before .before .before .before .before .before .term-at .ensures)
-    (passing-next (mayHold (start .args .lots .now) (start .args .table .now)) (start .args .sheet .now) (start .pre .0 .accepted) (start .args .head .0) (c .before .before .before .before .before .before .before .before .before .before .loop .at .0) (c .before .before .before .before .before .before .before .before .before .before .loop .inv)
+    (passing-next (allows (start .args .lots .now) (start .args .table .now)) (start .args .sheet .now) (start .pre .0 .accepted) (start .args .head .0) (c .before .before .before .before .before .before .before .before .before .before .loop .at .0) (c .before .before .before .before .before .before .before .before .before .before .loop .inv)
     (record-number (c .before .before .before .before .before .before .before .before))
     (answer (c .before .before) ∙ c .before .if2 .left))
 
@@ -101,7 +101,7 @@ returns-2 : tie.Need-returns-2 Inv-loop μ-loop
 returns-2 c = let start = c .before .before .before .before .before .before in
     ap not
     (sym
-    (ended (mayHold (start .args .lots .now) (start .args .table .now)) (start .args .sheet .now) (start .pre .0 .accepted) (start .args .head .0) (c .before .before .loop .at .0) (c .before .before .loop .inv) (c .if1 .left)))
+    (ended (allows (start .args .lots .now) (start .args .table .now)) (start .args .sheet .now) (start .pre .0 .accepted) (start .args .head .0) (c .before .before .loop .at .0) (c .before .before .loop .inv) (c .if1 .left)))
 
 pub all-false-spec : {M : Type 1} → statement M
 all-false-spec =
@@ -113,9 +113,9 @@ all-false-spec =
     term-at-requires
     cast-a
     cast-b
-    shared-slice-read-may-hold
-    shared-slice-read-may-hold-2
-    may-hold-requires
+    shared-slice-read-allows
+    shared-slice-read-allows-2
+    allows-requires
     returns
     loop-less
     loop-again

@@ -31,8 +31,8 @@ low c = omega (arith, c .before .before .if1 .left)
 high : (c : tie.Else2) → c .before .before .before .before .before .before .before .before .before .args .c .0 ≤ conditionCount (c .before .before .before .before .before .before .before .before .before .args .sheet .now)
 high c = omega (arith, ltb-false (c .before .before .before .before .before .before .before .before .before .args .m) (c .before .before .before .before .before .before .before .before .before .args .c .0) (c .if2 .left), c .before .before .before .before .before .before .before .before .before .pre .0 .counted)
 
-ground-holds-requires : tie.Need-ground-holds-requires
-ground-holds-requires c κs = let start = c .before .before .before .before .before .before .before .before .before .before .before .before in
+ground-passes-requires : tie.Need-ground-passes-requires
+ground-passes-requires c κs = let start = c .before .before .before .before .before .before .before .before .before .before .before .before in
     (start .pre .0, low (c .before .before .before), omega (arith, high (c .before .before .before), start .pre .0 .counted), start .pre .1, start .pre .3)
 
 same-length : tie.Need-same-length
@@ -49,8 +49,8 @@ returns-2 c = let start = c .before .before .before .before .before .before .bef
     let s = start .args .sheet .now in (
       (λ walkRest rest left. not-ground (c .before .before .before .before .before .before .before .before .before .before .before .before .before .before .before .before .args .sheet .now) walkRest rest (c .before .before .before .before .before .before .before .before .before .before .before .before .before .before .before .before .args .r) (pathOf (c .before .before .before .before .before .before .before .before .before .before .before .before .before .before .before .before .args .path .now) (c .before .before .before .before .before .before .before .before .before .before .before .before .before .before .before .before .args .depth)) (c .before .before .before .before .before .before .before .before .before .before .before .before .before .before .before .before .args .c .0)
           (condition-within s (start .args .c .0) (low (c .before .before .before .before .before .before .before)) (high (c .before .before .before .before .before .before .before)))
-          (not-false _ (sym (c .before .before .before .ground-holds .ensures .0) ∙ not-true _ (c .if3 .taken)))),
-      (tt, c .before .before .before .ground-holds .ensures .1),
+          (not-false _ (sym (c .before .before .before .ground-passes .ensures .0) ∙ not-true _ (c .if3 .taken)))),
+      (tt, c .before .before .before .ground-passes .ensures .1),
     )
 
 after-ground-requires : tie.Need-after-ground-requires
@@ -71,9 +71,9 @@ returns-3 c = let start = c .before .before .before .before .before .before .bef
     let follows = c .before .before .before .before .after-ground in (
       (λ walkRest rest left. grounded (c .before .before .before .before .before .before .before .before .before .before .before .before .before .before .before .before .before .before .before .before .before .before .before .args .sheet .now) walkRest rest (c .before .before .before .before .before .before .before .before .before .before .before .before .before .before .before .before .before .before .before .before .before .before .before .args .r) (pathOf (c .before .before .before .before .before .before .before .before .before .before .before .before .before .before .before .before .before .before .before .before .before .before .before .args .path .now) (c .before .before .before .before .before .before .before .before .before .before .before .before .before .before .before .before .before .before .before .before .before .before .before .args .depth)) (c .before .before .before .before .before .before .before .before .before .before .before .before .before .before .before .before .before .before .before .before .before .before .before .args .c .0)
           (condition-within s (start .args .c .0) (low (c .before .before .before .before .before .before .before .before .before .before .before .before .before .before)) (high (c .before .before .before .before .before .before .before .before .before .before .before .before .before .before)))
-          (not-true _ (sym (c .before .before .before .before .before .before .before .before .before .before .ground-holds .ensures .0) ∙ not-false _ (c .before .before .before .before .before .before .before .if3 .left)))
+          (not-true _ (sym (c .before .before .before .before .before .before .before .before .before .before .ground-passes .ensures .0) ∙ not-false _ (c .before .before .before .before .before .before .before .if3 .left)))
           ∙ follows .ensures .0 walkRest rest left),
-      (follows .ensures .1 (start .args .maps .now) (start .pre .1), c .before .before .before .before .before .before .before .before .before .before .ground-holds .ensures .1),
+      (follows .ensures .1 (start .args .maps .now) (start .pre .1), c .before .before .before .before .before .before .before .before .before .before .ground-passes .ensures .1),
     )
 
 pub ground-step-spec : {M : Type 1} → statement M
@@ -81,7 +81,7 @@ ground-step-spec =
     tie.close
     (tie.spec
     returns
-    ground-holds-requires
+    ground-passes-requires
     same-length
     same-length-2
     same-length-3

@@ -15,19 +15,19 @@ use Rattle.sheet.proofs.Accepted.{SoundRecord, sound, has-record}
 use Rattle.sheet.proofs.ChainEnds.{rest-shorter}
 use Rattle.equality.specs.Node.{classOf}
 use Rattle.equality.proofs.Passing.{Passing, passing-start, passing-next, left-decides}
-use Rattle.checker.specs.Table.{mayHold, mayHoldBy}
-use Rattle.checker.proofs.Marks.{may-hold-term}
+use Rattle.checker.specs.Table.{allows, allowsClasses}
+use Rattle.checker.proofs.Marks.{allows-term}
 use Rattle.checker.proofs.past_apart.Statement.{statement}
 use Rattle.checker.proofs.past_apart.Tie as tie
 
 abbrev Inv-loop : tie.InvT-loop
-Inv-loop sheet m lots at₀ at = (at .0 ≤ recordCount sheet) × ((table : List ℕ) → Passing (mayHold lots table) sheet (at₀ .0) (at .0))
+Inv-loop sheet m lots at₀ at = (at .0 ≤ recordCount sheet) × ((table : List ℕ) → Passing (allows lots table) sheet (at₀ .0) (at .0))
 
 abbrev μ-loop : tie.MeasureT-loop
 μ-loop sheet m lots at₀ at = length (recordsFrom sheet (at .0))
 
 loop-holds : tie.Need-loop-holds Inv-loop μ-loop
-loop-holds c = (c .before .before .pre .2, (λ table. passing-start (mayHold _ table) _ _ (c .before .before .pre .2)))
+loop-holds c = (c .before .before .pre .2, (λ table. passing-start (allows _ table) _ _ (c .before .before .pre .2)))
 
 -- In a turn: the record is one of the sheet's,
 record-number : (c : tie.Then1 Inv-loop μ-loop) → 1 ≤ c .before .before .loop .at .0
@@ -54,7 +54,7 @@ term-at-requires c κs = let start = c .before .before .before .before .before i
 
 returns : tie.Need-returns Inv-loop μ-loop
 returns c = let start = c .before .before .before .before .before .before .before .before in
-    (c .before .before .before .before .before .loop .inv .0, (λ table. left-decides (mayHold (start .args .lots .now) table) (start .args .sheet .now) (start .pre .0 .accepted) (start .args .head .0) (c .before .before .before .before .before .loop .at .0) (c .before .before .before .before .before .loop .inv .1 table)))
+    (c .before .before .before .before .before .loop .inv .0, (λ table. left-decides (allows (start .args .lots .now) table) (start .args .sheet .now) (start .pre .0 .accepted) (start .args .head .0) (c .before .before .before .before .before .loop .at .0) (c .before .before .before .before .before .loop .inv .1 table)))
 
 cast-a : tie.Need-cast-a Inv-loop μ-loop
 cast-a c = search needs
@@ -70,17 +70,17 @@ shared-slice-read-if3-2 c = omega (arith, second-entry (c .before .before .befor
 
 returns-2 : tie.Need-returns-2 Inv-loop μ-loop
 returns-2 c = let start = c .before .before .before .before .before .before .before .before .before .before .before .before .before in
-    (c .before .before .before .before .before .before .before .before .before .before .loop .inv .0, (λ table. left-decides (mayHold (start .args .lots .now) table) (start .args .sheet .now) (start .pre .0 .accepted) (start .args .head .0) (c .before .before .before .before .before .before .before .before .before .before .loop .at .0) (c .before .before .before .before .before .before .before .before .before .before .loop .inv .1 table)))
+    (c .before .before .before .before .before .before .before .before .before .before .loop .inv .0, (λ table. left-decides (allows (start .args .lots .now) table) (start .args .sheet .now) (start .pre .0 .accepted) (start .args .head .0) (c .before .before .before .before .before .before .before .before .before .before .loop .at .0) (c .before .before .before .before .before .before .before .before .before .before .loop .inv .1 table)))
 
 -- Past both tests the record's term is false, by any table.
-false-term : (c : tie.Else3 Inv-loop μ-loop) (table : List ℕ) → mayHold (c .before .before .before .before .before .before .before .before .before .before .before .before .before .args .lots .now) table (termAt (c .before .before .before .before .before .before .before .before .before .before .before .before .before .args .sheet .now) (c .before .before .before .before .before .before .before .before .before .before .loop .at .0)) ≡ false
+false-term : (c : tie.Else3 Inv-loop μ-loop) (table : List ℕ) → allows (c .before .before .before .before .before .before .before .before .before .before .before .before .before .args .lots .now) table (termAt (c .before .before .before .before .before .before .before .before .before .before .before .before .before .args .sheet .now) (c .before .before .before .before .before .before .before .before .before .before .loop .at .0)) ≡ false
 false-term c table =
     let start = c .before .before .before .before .before .before .before .before .before .before .before .before .before in
     let s = start .args .sheet .now in
     let r = c .before .before .before .before .before .before .before .before .before .before .loop .at .0 in
     let term = c .before .before .before .before .before .before .before .term-at in
-    may-hold-term (start .args .lots .now) table (signAt s r) (firstLotAt s r) (secondLotAt s r)
-    ∙ ap (λ (t : Term). mayHoldBy table (eqb (t .sign) 1) (classOf (start .args .lots .now) (t .a .0)) (classOf (start .args .lots .now) (t .b .0))) (sym (term .ensures))
+    allows-term (start .args .lots .now) table (signAt s r) (firstLotAt s r) (secondLotAt s r)
+    ∙ ap (λ (t : Term). allowsClasses table (eqb (t .sign) 1) (classOf (start .args .lots .now) (t .a .0)) (classOf (start .args .lots .now) (t .b .0))) (sym (term .ensures))
     ∙ simp (ne-eqb (term .result .sign) 1 (c .before .before .before .before .before .if2 .left), eq-eqb _ _ (c .if3 .left))
 
 loop-less : tie.Need-loop-less Inv-loop μ-loop
@@ -93,14 +93,14 @@ loop-again c = let start = c .before .before .before .before .before .before .be
     rw (c .before .before .before .before .before .before .before .before .term-at .ensures) (
       sound (start .args .sheet .now) (start .pre .0 .accepted) .records (c .before .before .before .before .before .before .before .before .before .before .before .loop .at .0) (record-number (c .before .before .before .before .before .before .before .before .before)) (c .before .before .before .before .before .before .before .before .before .before .before .loop .inv .0) .next,
       (λ table.
-          passing-next (mayHold (start .args .lots .now) table) (start .args .sheet .now) (start .pre .0 .accepted) (start .args .head .0) (c .before .before .before .before .before .before .before .before .before .before .before .loop .at .0) (c .before .before .before .before .before .before .before .before .before .before .before .loop .inv .1 table)
+          passing-next (allows (start .args .lots .now) table) (start .args .sheet .now) (start .pre .0 .accepted) (start .args .head .0) (c .before .before .before .before .before .before .before .before .before .before .before .loop .at .0) (c .before .before .before .before .before .before .before .before .before .before .before .loop .inv .1 table)
           (record-number (c .before .before .before .before .before .before .before .before .before))
           (false-term (c .before) table)),
     )
 
 returns-3 : tie.Need-returns-3 Inv-loop μ-loop
 returns-3 c = let start = c .before .before .before .before .before in
-    (c .before .before .loop .inv .0, (λ table. left-decides (mayHold (start .args .lots .now) table) (start .args .sheet .now) (start .pre .0 .accepted) (start .args .head .0) (c .before .before .loop .at .0) (c .before .before .loop .inv .1 table)))
+    (c .before .before .loop .inv .0, (λ table. left-decides (allows (start .args .lots .now) table) (start .args .sheet .now) (start .pre .0 .accepted) (start .args .head .0) (c .before .before .loop .at .0) (c .before .before .loop .inv .1 table)))
 
 pub past-apart-spec : {M : Type 1} → statement M
 past-apart-spec =

@@ -1,4 +1,4 @@
--- `checker::ground_holds`: past the terms that no mark decides, the table is stamped with 1, the terms that are left are tested by it, and stamped with 0 it
+-- `checker::ground_passes`: past the terms that no mark decides, the table is stamped with 1, the terms that are left are tested by it, and stamped with 0 it
 -- has no marks again.
 use borrow.Author.Needs.{needs}
 use Prim.Native.Nat.{ℕ}
@@ -16,11 +16,11 @@ use Rattle.refutation.specs.Refutation.{decisionsOf, groundFails, named}
 use Rattle.path.specs.Paths.{pathOf}
 use Rattle.path.proofs.Within.{within-small}
 use Rattle.levels.proofs.Leveling.{top-classes, top-level}
-use Rattle.checker.specs.Table.{Unmarked, stamped, ClassMap, mayHold}
+use Rattle.checker.specs.Table.{Unmarked, stamped, ClassMap, allows}
 use Rattle.checker.proofs.Marks.{marks-cleared}
 use Rattle.checker.proofs.Grounds.{class-map, classes-within, ground-agrees}
-use Rattle.checker.proofs.ground_holds.Statement.{statement}
-use Rattle.checker.proofs.ground_holds.Tie as tie
+use Rattle.checker.proofs.ground_passes.Statement.{statement}
+use Rattle.checker.proofs.ground_passes.Tie as tie
 
 top-requires : tie.Need-top-requires
 top-requires c κs = let w = c .before .before .before .before .before .pre .3 in (w .rows, omega (arith, w .places, w .deep), top-level w)
@@ -45,7 +45,7 @@ past-apart-requires c κs = let start = c .before .before .before .before .befor
 
 -- What is left of the chain decides the ground, by the path's classes and its marks.
 left-over : (c : tie.After-past-apart)
-    → someTerm (mayHold (classes (decisionsOf (pathOf (c .before .before .before .before .before .before .before .before .args .path .now) (c .before .before .before .before .before .before .before .before .args .depth)))) (stamped 1 (classes (decisionsOf (pathOf (c .before .before .before .before .before .before .before .before .args .path .now) (c .before .before .before .before .before .before .before .before .args .depth)))) (decisionsOf (pathOf (c .before .before .before .before .before .before .before .before .args .path .now) (c .before .before .before .before .before .before .before .before .args .depth))) (c .before .before .before .before .before .before .before .before .args .table .now))) (termsFrom (c .before .before .before .before .before .before .before .before .args .sheet .now) (c .past-apart .result .0))
+    → someTerm (allows (classes (decisionsOf (pathOf (c .before .before .before .before .before .before .before .before .args .path .now) (c .before .before .before .before .before .before .before .before .args .depth)))) (stamped 1 (classes (decisionsOf (pathOf (c .before .before .before .before .before .before .before .before .args .path .now) (c .before .before .before .before .before .before .before .before .args .depth)))) (decisionsOf (pathOf (c .before .before .before .before .before .before .before .before .args .path .now) (c .before .before .before .before .before .before .before .before .args .depth))) (c .before .before .before .before .before .before .before .before .args .table .now))) (termsFrom (c .before .before .before .before .before .before .before .before .args .sheet .now) (c .past-apart .result .0))
     ≡ groundFails (decisionsOf (pathOf (c .before .before .before .before .before .before .before .before .args .path .now) (c .before .before .before .before .before .before .before .before .args .depth))) (named (c .before .before .before .before .before .before .before .before .args .sheet .now) (c .before .before .before .before .before .before .before .before .args .c .0))
 left-over c =
     let start = c .before .before .before .before .before .before .before .before in
@@ -54,9 +54,9 @@ left-over c =
     let marks = stamped 1 (classes ds) ds (start .args .table .now) in
     let lots = map-is (c .before .before) in
     let head = c .before .head-at .ensures in
-    sym (λ i. someTerm (mayHold (lots i) marks) (termsFrom s (c .past-apart .result .0)))
+    sym (λ i. someTerm (allows (lots i) marks) (termsFrom s (c .past-apart .result .0)))
     ∙ sym (c .past-apart .ensures .1 marks)
-    ∙ (λ i. someTerm (mayHold (lots i) marks) (termsFrom s (head i)))
+    ∙ (λ i. someTerm (allows (lots i) marks) (termsFrom s (head i)))
     ∙ ground-agrees ds (within-small (start .pre .3 .within)) (start .args .table .now) (start .pre .4) s (start .pre .0 .accepted) (start .args .c .0) (start .pre .1) (omega (arith, start .pre .2, start .pre .0 .counted))
 
 returns : tie.Need-returns
@@ -66,9 +66,9 @@ returns c = let start = c .before .before .before .before .before .before .befor
     let marks = stamped 1 (classes ds) ds (start .args .table .now) in (
       ap not
           (sym (sym (left-over (c .before .before))
-          ∙ ap (λ (r : ℕ). someTerm (mayHold (classes ds) marks) (termsFrom s r)) (c .if1 .taken)
-          ∙ ap (someTerm (mayHold (classes ds) marks)) (terms-end s)
-          ∙ some-false (mayHold (classes ds) marks) [] tt)),
+          ∙ ap (λ (r : ℕ). someTerm (allows (classes ds) marks) (termsFrom s r)) (c .if1 .taken)
+          ∙ ap (someTerm (allows (classes ds) marks)) (terms-end s)
+          ∙ some-false (allows (classes ds) marks) [] tt)),
       start .pre .4,
     )
 
@@ -95,14 +95,14 @@ returns-2 c = let start = c .before .before .before .before .before .before .bef
     let lots = map-is (c .before .before .before .before .before .before .before .before .before .before .before .before .before .before) in
     let marks = c .before .before .before .before .before .before .before .before .stamp .ensures ∙ ap (λ (l : List ℕ). stamped 1 l ds table) lots in (
       c .before .before .before .before .all-false .ensures
-          ∙ (λ i. not (someTerm (mayHold (lots i) (marks i)) (termsFrom s (c .before .before .before .before .before .before .before .before .before .before .before .before .past-apart .result .0))))
+          ∙ (λ i. not (someTerm (allows (lots i) (marks i)) (termsFrom s (c .before .before .before .before .before .before .before .before .before .before .before .before .past-apart .result .0))))
           ∙ ap not (left-over (c .before .before .before .before .before .before .before .before .before .before .before .before)),
       subst Unmarked (sym (c .before .before .stamp2 .ensures ∙ (λ i. stamped 0 (lots i) ds (marks i))))
           (marks-cleared (classes ds) (classes-within ds) ds (within-small (start .pre .3 .within)) table (start .pre .4)),
     )
 
-pub ground-holds-spec : {M : Type 1} → statement M
-ground-holds-spec =
+pub ground-passes-spec : {M : Type 1} → statement M
+ground-passes-spec =
     tie.close
     (tie.spec
     top-requires

@@ -1,8 +1,8 @@
--- `checker::may_hold`, by the sign and by whether the classes are one.
+-- `checker::allows`, by the sign and by whether the classes are one.
 use borrow.Author.Needs.{needs}
 use borrow.Author.Tests.{eq-eqb, ne-eqb}
-use Rattle.checker.proofs.may_hold.Statement.{statement}
-use Rattle.checker.proofs.may_hold.Tie as tie
+use Rattle.checker.proofs.allows.Statement.{statement}
+use Rattle.checker.proofs.allows.Tie as tie
 
 mul-result : tie.Need-mul-result
 mul-result c = search needs
@@ -22,6 +22,6 @@ returns-2 c = simp (eq-eqb _ _ (c .before .before .if1 .taken), ne-eqb _ _ (c .b
 returns-3 : tie.Need-returns-3
 returns-3 c = simp (ne-eqb _ _ (c .if1 .left))
 
-pub may-hold-spec : {M : Type 1} → statement M
-may-hold-spec =
+pub allows-spec : {M : Type 1} → statement M
+allows-spec =
     tie.close (tie.spec mul-result add-result shared-slice-read-result returns returns-2 returns-3)
