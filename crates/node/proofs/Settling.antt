@@ -180,7 +180,7 @@ module _ (marks : List ℕ) (i level : ℕ) (h : i < length marks) where
   marked-settle cs s l e =
       record {
         low = l .low;
-        sized = length-set marks i level ∙ l .sized;
+        sized = omega (arith, length-set marks i level, l .sized);
         high = by-place (λ j v. v ≤ level) (omega arith) (λ j other. l .high j);
         each = by-place (λ j v. v ≢ 0 → settledBy cs (conditionAt s (suc j)) ≡ true) (λ n. e) (λ j other. l .each j);
       }
@@ -247,7 +247,7 @@ module _ (cs s marks marks′ marks″ : List ℕ) (level : ℕ) (l : Marked cs 
   restored-marked =
       record {
         low = l .low;
-        sized = cleared .sized ∙ over .sized ∙ l .sized;
+        sized = omega (arith, cleared .sized, over .sized, l .sized);
         high = λ i. omega (arith, restored i, l .high i);
         each = λ i n. l .each i (λ none. n (restored i ∙ none));
       }

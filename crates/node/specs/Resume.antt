@@ -4,12 +4,14 @@ use mathlib.Core.List.{List, _∷_, _++_}
 use mathlib.Core.Path.{_≡_}
 use Rattle.sheet.specs.Format.{recordCount, headAt}
 use Rattle.sheet.specs.Conditions.{Term, apart, termsFrom, conditionAt, conditions}
-use Rattle.equality.specs.Node.{Decisions, takes, taken, Node, met, ground, split, groundOrSplit}
+use Rattle.equality.specs.Node.{Decisions, noCondition, takes, taken, Node, met, ground, split, groundOrSplit}
 use Rattle.node.specs.declared.Node as declared
 use Rattle.node.specs.declared.Node.the-variants.{Met, Ground, Split}
 use Rattle.node.specs.declared.Split as pair
 use Rattle.node.specs.declared.Open as first
 use Rattle.node.specs.declared.Open.the-variants.{At, Nothing}
+use Rattle.node.specs.declared.Place.{Place}
+use Rattle.node.specs.declared.Place.the-variants as spot
 use Rattle.node.specs.declared.Resume.{Resume}
 use Rattle.node.specs.declared.Resume.the-variants.{Scan, Within}
 
@@ -49,6 +51,15 @@ Resumes s (Within c r) ds = ResumesWithin s (c .0) (r .0) ds
 abbrev pub StartsWithin : List ℕ → Resume → Type 0
 StartsWithin s Scan = Unit {0}
 StartsWithin s (Within c r) = r .0 ≤ recordCount s
+
+-- The node of these decisions takes the condition of this place, and none of its terms before the record is open; or it takes none.
+abbrev pub Stands : List ℕ → Place → Decisions → Type 0
+Stands s (spot.Within c r) ds = ResumesWithin s (c .0) (r .0) ds
+Stands s spot.Nowhere ds = taken ds 1 (conditions s) ≡ noCondition
+
+abbrev pub PlaceWithin : List ℕ → Place → Type 0
+PlaceWithin s (spot.Within c r) = r .0 ≤ recordCount s
+PlaceWithin s spot.Nowhere = Unit {0}
 
 -- ---- what a split says of its apart branch
 

@@ -20,10 +20,10 @@ sharing cs (apart a b) = false
 abbrev pub settledBy : List ℕ → List Term → Bool
 settledBy cs ts = someTerm (sharing cs) ts
 
--- The marks of a path, one a condition: 0, or the level at which the condition was seen to be settled, which is none above this one.
+-- The marks of a path, one a condition, and maybe some after them that stay 0: 0, or the level at which the condition was seen to be settled, which is none above this one.
 pub record Marked (cs s marks : List ℕ) (level : ℕ) : Type 0 where
   pub low : 1 ≤ level
-  pub sized : length marks ≡ conditionCount s
+  pub sized : conditionCount s ≤ length marks
   pub high : (i : ℕ) → getD marks i 0 ≤ level
   pub each : (i : ℕ) → getD marks i 0 ≢ 0 → settledBy cs (conditionAt s (suc i)) ≡ true
 

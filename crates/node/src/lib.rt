@@ -9,7 +9,7 @@ ghost use Rattle.equality.specs.Node.{Decisions, classes, passedOver, taken, gr
 ghost use Rattle.classes.specs.Pairs.{PairsWithin, Represents};
 ghost use Rattle.node.specs.Settled.{Marked, Later, ClearedAbove};
 ghost use Rattle.node.specs.Scan.{takenAs, TakenWithin, Scannable};
-ghost use Rattle.node.specs.Resume.{openAs, OpenLeaves, nodeAs, ResumesWithin, Resumes, Leaves, StartsWithin};
+ghost use Rattle.node.specs.Resume.{openAs, OpenLeaves, nodeAs, ResumesWithin, Resumes, Leaves, StartsWithin, Stands, PlaceWithin};
 use classes::Classes;
 use sheet::Condition;
 use sheet::Lot;
@@ -32,6 +32,12 @@ pub enum Open {
 pub enum Resume {
     Scan,
     Within(Condition, Record),
+}
+
+// Where the node's terms are looked at: within the condition that it takes, from a record on; or nowhere, where it takes none.
+pub enum Place {
+    Within(Condition, Record),
+    Nowhere,
 }
 
 // A split: its condition and its lots, and the record after the term that it splits on, where the apart branch resumes.
@@ -168,35 +174,45 @@ fn ground_or_split(
     }
 }
 
-// The node of a path, whose classes and pairs set apart are given: met where the scan finds no condition to take, otherwise a ground or a split of the
-// condition taken. A visit that resumes within that condition scans nothing again.
-pub fn node_at(
+// Where the terms of a path's node are looked at: from the head of the condition that the scan takes; a visit that resumes within a condition scans nothing
+// again. The marks are written here, apart from the reading of the terms, so that the map can be read in place there.
+pub fn locate(
     sheet: &[u8],
     m: u16,
     map: Classes,
-    pairs: &[u8],
-    count: usize,
     from: Resume,
     marks: &mut [u16],
     level: u16,
-) -> Node
-    requires { ⌜ Scannable (now sheet) m × PairsWithin (now pairs) count × StartsWithin (now sheet) from × Marked (map .lots) (now sheet) (now marks) level ⌝ }
-    ensures node { λ r. ⌜ ((ds : Decisions) → Represents map (now (pairs .entry)) count ds → Resumes (now (sheet .entry)) from ds → nodeAs r ≡ node ds (conditions (now (sheet .entry)))) ⌝ }
-    ensures leaves { λ r. ⌜ ((ds : Decisions) → Represents map (now (pairs .entry)) count ds → Resumes (now (sheet .entry)) from ds → Leaves (now (sheet .entry)) r ds) ⌝ }
+) -> Place
+    requires { ⌜ Scannable (now sheet) m × StartsWithin (now sheet) from × Marked (map .lots) (now sheet) (now marks) level ⌝ }
+    ensures stands { λ r. ⌜ ((ds : Decisions) → map .lots ≡ classes ds → Resumes (now (sheet .entry)) from ds → Stands (now (sheet .entry)) r ds) ⌝ }
+    ensures within { λ r. ⌜ PlaceWithin (now (sheet .entry)) r ⌝ }
     ensures marked { λ r. ⌜ Marked (map .lots) (now (sheet .entry)) (now (marks .exit)) level ⌝ }
     ensures later { λ r. ⌜ Later (now (marks .entry)) (now (marks .exit)) level ⌝ }
 {
     match from {
-        Resume::Within(c, after) => ground_or_split(sheet, m, map, pairs, count, c, after),
+        Resume::Within(c, after) => Place::Within(c, after),
         Resume::Scan => {
             let taken = scan(sheet, m, map, marks, level);
             match taken {
-                Taken::Nothing => Node::Met,
+                Taken::Nothing => Place::Nowhere,
                 Taken::Lowest(c) => {
                     let head = sheet::format::head_at(sheet, c);
-                    ground_or_split(sheet, m, map, pairs, count, c, head)
+                    Place::Within(c, head)
                 }
             }
         }
+    }
+}
+
+// The node of a path, whose classes and pairs set apart are given: met where it takes no condition, otherwise a ground or a split of the condition taken.
+pub fn node_at(sheet: &[u8], m: u16, map: Classes, pairs: &[u8], count: usize, place: Place) -> Node
+    requires { ⌜ Scannable (now sheet) m × PairsWithin (now pairs) count × PlaceWithin (now sheet) place ⌝ }
+    ensures node { λ r. ⌜ ((ds : Decisions) → Represents map (now (pairs .entry)) count ds → Stands (now (sheet .entry)) place ds → nodeAs r ≡ node ds (conditions (now (sheet .entry)))) ⌝ }
+    ensures leaves { λ r. ⌜ ((ds : Decisions) → Represents map (now (pairs .entry)) count ds → Stands (now (sheet .entry)) place ds → Leaves (now (sheet .entry)) r ds) ⌝ }
+{
+    match place {
+        Place::Within(c, from) => ground_or_split(sheet, m, map, pairs, count, c, from),
+        Place::Nowhere => Node::Met,
     }
 }

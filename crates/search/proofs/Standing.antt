@@ -98,11 +98,11 @@ none-marked (suc n) zero i = refl
 none-marked (suc n) (suc m) zero = refl
 none-marked (suc n) (suc m) (suc i) = none-marked n m i
 
-pub start-marked : (cs s : List ℕ) (n m : ℕ) → m ≤ n → m ≡ conditionCount s → Marked cs s (take m (replicate n 0)) 1
+pub start-marked : (cs s : List ℕ) (n m : ℕ) → m ≤ n → conditionCount s ≤ m → Marked cs s (take m (replicate n 0)) 1
 start-marked cs s n m h e =
     record {
       low = omega arith;
-      sized = length-take-le m (replicate n 0) (simp length-replicate h) ∙ e;
+      sized = omega (arith, length-take-le {A = ℕ} m (replicate n 0) (simp length-replicate h), e);
       high = λ i. omega (arith, none-marked n m i);
       each = λ i marked. absurd (marked (none-marked n m i));
     }

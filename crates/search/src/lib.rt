@@ -31,6 +31,9 @@ const PAIRS_LENGTH: usize = 2048;
 // The marks of the conditions that are known to be settled: one for each condition that a sheet can have.
 const MARKS_LENGTH: usize = 256;
 
+// So many marks are taken back at once: they are lent in whole groups of this many.
+const MARKS_TOGETHER: usize = 16;
+
 // The level of the path with no decision. Each same branch is one level further, and 0 stands for no mark.
 const FIRST_LEVEL: u16 = 1;
 
@@ -88,7 +91,8 @@ fn visit(
     if store::capacity_of(store) <= (before as usize) {
         return Visited::Full;
     }
-    let node = node::node_at(sheet, m, map, pairs, count, from, marks, level);
+    let place = node::locate(sheet, m, map, from, marks, level);
+    let node = node::node_at(sheet, m, map, pairs, count, place);
     match node {
         Node::Met => {
             store::write(store, NodeNumber(before + 1), NodeRecord::Met);
@@ -199,6 +203,7 @@ fn start(sheet: &[u8], m: u16, grouping: &mut [u8], store: &mut [u8]) -> Visited
 {
     let mut pairs = [0u8; PAIRS_LENGTH];
     let mut marks = [0u16; MARKS_LENGTH];
+    let room = MARKS_TOGETHER * ((m as usize + (MARKS_TOGETHER - 1)) / MARKS_TOGETHER);
     let map = Classes::new();
     visit(
         sheet,
@@ -210,7 +215,7 @@ fn start(sheet: &[u8], m: u16, grouping: &mut [u8], store: &mut [u8]) -> Visited
         &mut pairs,
         grouping,
         store,
-        &mut marks[..m as usize],
+        &mut marks[..room],
         FIRST_LEVEL,
     )
 }

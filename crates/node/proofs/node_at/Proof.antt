@@ -1,127 +1,40 @@
--- `node::node_at`: the condition that the scan takes, from its head on; or the condition and the record that the visit resumes at.
+-- `node::node_at`: the terms from the place on decide what the node is; nowhere, it is met.
 use borrow.Author.Needs.{needs}
-use Prim.Native.Nat.{_≤_}
-use mathlib.Core.Path.{sym, ap, subst, _∙_}
-use native.Mathlib.Omega.{arith}
-use Rattle.sheet.specs.Format.{recordCount, headAt}
-use Rattle.sheet.proofs.Accepted.{sound}
-use Rattle.equality.specs.Node.{Decisions, takes, taken}
-use Rattle.classes.specs.Pairs.{Represents}
-use Rattle.node.specs.declared.Resume.{Resume}
-use Rattle.node.specs.Scan.{takenAs, TakenWithin}
-use Rattle.node.specs.Resume.{ResumesWithin, Resumes, StartsWithin}
-use Rattle.node.proofs.Settling.{later-none}
-use Rattle.node.proofs.Resuming.{none-met, head-resumes}
+use mathlib.Core.Path.{subst}
+use Rattle.node.specs.declared.Place.{Place}
+use Rattle.node.specs.Resume.{Stands, PlaceWithin}
+use Rattle.node.proofs.Resuming.{none-met}
 use Rattle.node.proofs.node_at.Statement.{statement}
 use Rattle.node.proofs.node_at.Tie as tie
 
-enum-known-from : tie.Need-enum-known-from
-enum-known-from c = search needs
-
--- ---- a visit that resumes
+enum-known-place : tie.Need-enum-known-place
+enum-known-place c = search needs
 
 ground-or-split-requires : tie.Need-ground-or-split-requires
 ground-or-split-requires c κs =
-    let start = c .before .before .before .before .before .before in
-    (start .pre .0, start .pre .1, subst (StartsWithin (start .args .sheet .now)) (c .before .from .given .1) (start .pre .2))
-
-returns : tie.Need-returns
-returns c =
-    let start = c .before .before .before .before .before .before .before in
-    let s = start .args .sheet .now in
-    let from = c .before .before .from .given .1 in (
-      (λ ds rep w. c .ground-or-split .ensures .0 ds rep (subst (λ (f : Resume). Resumes s f ds) from w)),
-      (
-        (λ ds rep w. c .ground-or-split .ensures .1 ds rep (subst (λ (f : Resume). Resumes s f ds) from w)),
-        (start .pre .3, later-none _ _),
-      ),
-    )
-
--- ---- a visit that scans
+    let start = c .before .before .before .before .before in
+    (start .pre .0, start .pre .1, subst (PlaceWithin (start .args .sheet .now)) (c .before .place .given .1) (start .pre .2))
 
 enum-told : tie.Need-enum-told
 enum-told c = search needs
 
-scan-requires : tie.Need-scan-requires
-scan-requires c κs = search needs
-
-enum-told-2 : tie.Need-enum-told-2
-enum-told-2 c = search needs
-
-enum-known-taken : tie.Need-enum-known-taken
-enum-known-taken c = search needs
-
--- No condition is taken;
-same-length : tie.Need-same-length
-same-length c = search needs
+returns : tie.Need-returns
+returns c =
+    let start = c .before .before .before .before .before .before in
+    let s = start .args .sheet .now in
+    let at = c .before .before .place .given .1 in (
+      (λ ds rep w. c .ground-or-split .ensures .0 ds rep (subst (λ (p : Place). Stands s p ds) at w)),
+      (λ ds rep w. c .ground-or-split .ensures .1 ds rep (subst (λ (p : Place). Stands s p ds) at w)),
+    )
 
 returns-2 : tie.Need-returns-2
 returns-2 c =
-    let scan = c .before .before .before .before in
-    let s = scan .before .before .before .before .before .before .before .args .sheet .now in (
-      (λ ds rep w. none-met ds s (sym (scan .scan .ensures .0 ds (rep .lots)) ∙ ap (takenAs s) (c .enum-told2 .given .1))),
-      ((λ ds rep w. tt), scan .scan .ensures .1 .1),
+    let start = c .before .before .before .before in
+    let s = start .args .sheet .now in (
+      (λ ds rep w. none-met ds s (subst (λ (p : Place). Stands s p ds) (c .enum-told .given .1) w)),
+      (λ ds rep w. tt),
     )
-
--- or one of the sheet's is, and it is gone on within from its head on.
-number : (c : tie.After-taken) → (1 ≤ c .taken .given .0 .0 .0) × (c .taken .given .0 .0 .0 ≤ c .before .before .before .before .before .before .before .before .before .before .before .args .m)
-number c =
-    let scan = c .before .before .before .before in
-    subst (TakenWithin (scan .before .before .before .before .before .before .before .args .m)) (c .taken .given .1) (scan .scan .ensures .1 .0)
-
-head-at-requires : tie.Need-head-at-requires
-head-at-requires c κs =
-    let start = c .before .before .before .before .before .before .before .before .before .before .before .before in
-    let header = sound (start .args .sheet .now) (start .pre .0 .accepted) .header in
-    (number (c .before) .0, omega (arith, number (c .before) .1, start .pre .0 .counted, header .whole))
-
-head-within : (c : tie.After-taken) → headAt (c .before .before .before .before .before .before .before .before .before .before .before .args .sheet .now) (c .taken .given .0 .0 .0) ≤ recordCount (c .before .before .before .before .before .before .before .before .before .before .before .args .sheet .now)
-head-within c =
-    let start = c .before .before .before .before .before .before .before .before .before .before .before in
-    sound (start .args .sheet .now) (start .pre .0 .accepted) .heads (c .taken .given .0 .0 .0) (number c .0) (omega (arith, number c .1, start .pre .0 .counted))
-
-ground-or-split-requires-2 : tie.Need-ground-or-split-requires-2
-ground-or-split-requires-2 c κs =
-    let start = c .before .before .before .before .before .before .before .before .before .before .before .before .before in
-    (start .pre .0, start .pre .1, omega (arith, c .head-at .ensures, head-within (c .before .before)))
-
-resumes : (c : tie.After-head-at) (ds : Decisions)
-    → Represents (c .before .before .before .before .before .before .before .before .before .before .before .before .before .args .map) (c .before .before .before .before .before .before .before .before .before .before .before .before .before .args .pairs .now) (c .before .before .before .before .before .before .before .before .before .before .before .before .before .args .count) ds
-    → ResumesWithin (c .before .before .before .before .before .before .before .before .before .before .before .before .before .args .sheet .now) (c .before .before .taken .given .0 .0 .0) (c .head-at .result .0) ds
-resumes c ds rep =
-    let condition = c .before .before in
-    let scan = condition .before .before .before .before in
-    let s = scan .before .before .before .before .before .before .before .args .sheet .now in
-    rw (c .head-at .ensures)
-    (head-resumes ds s (condition .taken .given .0 .0 .0) (head-within condition)
-    (sym (scan .scan .ensures .0 ds (rep .lots)) ∙ ap (takenAs s) (condition .taken .given .1)))
-
-same-length-2 : tie.Need-same-length-2
-same-length-2 c = search needs
-
-returns-3 : tie.Need-returns-3
-returns-3 c = (
-  (λ ds rep w. c .ground-or-split2 .ensures .0 ds rep (resumes (c .before) ds rep)),
-  (
-    (λ ds rep w. c .ground-or-split2 .ensures .1 ds rep (resumes (c .before) ds rep)),
-    c .before .before .before .before .before .before .before .scan .ensures .1 .1,
-  ),
-)
 
 pub node-at-spec : {M : Type 1} → statement M
 node-at-spec =
-    tie.close
-    (tie.spec
-    enum-known-from
-    ground-or-split-requires
-    enum-told
-    scan-requires
-    enum-told-2
-    enum-known-taken
-    head-at-requires
-    ground-or-split-requires-2
-    returns
-    same-length
-    returns-2
-    same-length-2
-    returns-3)
+    tie.close (tie.spec enum-known-place ground-or-split-requires enum-told returns returns-2)

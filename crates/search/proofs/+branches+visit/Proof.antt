@@ -36,6 +36,7 @@ use Rattle.search.proofs.+branches+visit.Lts-visit as visit-lts
 use Rattle.classes.proofs.Classes.join.Reads as join-reads
 use Rattle.classes.proofs.set_apart.Reads as set-apart-reads
 use Rattle.node.proofs.clear_above.Reads as clear-above-reads
+use Rattle.node.proofs.locate.Reads as locate-reads
 use Rattle.node.proofs.node_at.Reads as node-at-reads
 use Rattle.node.proofs.settle.Reads as settle-reads
 use Rattle.search.proofs.write_grouping.Reads as write-grouping-reads
@@ -88,6 +89,8 @@ abbrev visit-claims : ℕ → visit-lts.Claims
 visit-claims t = (
   capacity-of-reads.Asked,
   capacity-of-reads.Learnt,
+  locate-reads.Asked,
+  locate-reads.Learnt,
   node-at-reads.Asked,
   node-at-reads.Learnt,
   write-reads.Asked,
@@ -357,18 +360,18 @@ visit-room t c = omega (arith, c .before .capacity-of .ensures, c .if1 .left)
 
 -- and what kind it is, for whatever path the map and the pairs represent.
 visit-node : (t : ℕ) (c : visit-lts.After-node-at (visit-claims t) (visit-at t) visit.Post) (ds : Decisions)
-    → Standing (c .before .before .before .before .before .before .before .before .before .before .before .args .sheet .now) (c .before .before .before .before .before .before .before .before .before .before .before .args .map) (c .before .before .before .before .before .before .before .before .before .before .before .args .pairs .now) (c .before .before .before .before .before .before .before .before .before .before .before .args .count) ds
-    → Resumes (c .before .before .before .before .before .before .before .before .before .before .before .args .sheet .now) (c .before .before .before .before .before .before .before .before .before .before .before .args .from) ds
-    → node ds (conditions (c .before .before .before .before .before .before .before .before .before .before .before .args .sheet .now)) ≡ nodeAs (c .node-at .result)
-visit-node t c ds st res = sym (c .node-at .ensures .0 ds (st .represents) res)
+    → Standing (c .before .before .before .before .before .before .before .before .before .before .before .before .before .before .args .sheet .now) (c .before .before .before .before .before .before .before .before .before .before .before .before .before .before .args .map) (c .before .before .before .before .before .before .before .before .before .before .before .before .before .before .args .pairs .now) (c .before .before .before .before .before .before .before .before .before .before .before .before .before .before .args .count) ds
+    → Resumes (c .before .before .before .before .before .before .before .before .before .before .before .before .before .before .args .sheet .now) (c .before .before .before .before .before .before .before .before .before .before .before .before .before .before .args .from) ds
+    → node ds (conditions (c .before .before .before .before .before .before .before .before .before .before .before .before .before .before .args .sheet .now)) ≡ nodeAs (c .node-at .result)
+visit-node t c ds st res = sym (c .node-at .ensures .0 ds (st .represents) (c .before .before .before .before .locate .ensures .0 ds (st .represents .lots) res))
 
 -- A split says where its apart branch goes on.
 visit-leaves : (t : ℕ) (c : visit-lts.After-node-at (visit-claims t) (visit-at t) visit.Post) (ds : Decisions)
-    → Standing (c .before .before .before .before .before .before .before .before .before .before .before .args .sheet .now) (c .before .before .before .before .before .before .before .before .before .before .before .args .map) (c .before .before .before .before .before .before .before .before .before .before .before .args .pairs .now) (c .before .before .before .before .before .before .before .before .before .before .before .args .count) ds
-    → Resumes (c .before .before .before .before .before .before .before .before .before .before .before .args .sheet .now) (c .before .before .before .before .before .before .before .before .before .before .before .args .from) ds
-    → (kind : declared.Node) → c .node-at .result ≡ kind → Leaves (c .before .before .before .before .before .before .before .before .before .before .before .args .sheet .now) kind ds
+    → Standing (c .before .before .before .before .before .before .before .before .before .before .before .before .before .before .args .sheet .now) (c .before .before .before .before .before .before .before .before .before .before .before .before .before .before .args .map) (c .before .before .before .before .before .before .before .before .before .before .before .before .before .before .args .pairs .now) (c .before .before .before .before .before .before .before .before .before .before .before .before .before .before .args .count) ds
+    → Resumes (c .before .before .before .before .before .before .before .before .before .before .before .before .before .before .args .sheet .now) (c .before .before .before .before .before .before .before .before .before .before .before .before .before .before .args .from) ds
+    → (kind : declared.Node) → c .node-at .result ≡ kind → Leaves (c .before .before .before .before .before .before .before .before .before .before .before .before .before .before .args .sheet .now) kind ds
 visit-leaves t c ds st res kind e =
-    subst (λ (n : declared.Node). Leaves (c .before .before .before .before .before .before .before .before .before .before .before .args .sheet .now) n ds) e (c .node-at .ensures .1 .0 ds (st .represents) res)
+    subst (λ (n : declared.Node). Leaves (c .before .before .before .before .before .before .before .before .before .before .before .before .before .before .args .sheet .now) n ds) e (c .node-at .ensures .1 ds (st .represents) (c .before .before .before .before .locate .ensures .0 ds (st .represents .lots) res))
 
 visit-capacity-of-requires : (t : ℕ) → visit-lts.Need-capacity-of-requires (visit-claims t) (visit-at t) visit.Post
 visit-capacity-of-requires t c κs = search needs
@@ -384,54 +387,58 @@ visit-returns t c = let start = c .before .before .before .before .before .befor
   ((λ i h. refl), later-none _ _),
 )
 
-visit-node-at-requires : (t : ℕ) → visit-lts.Need-node-at-requires (visit-claims t) (visit-at t) visit.Post
-visit-node-at-requires t c κs = let start = c .before .before .before .before .before .before .before .before .before .before in
+visit-locate-requires : (t : ℕ) → visit-lts.Need-locate-requires (visit-claims t) (visit-at t) visit.Post
+visit-locate-requires t c κs = let start = c .before .before .before .before .before .before .before .before .before in
     let path = start .pre .1 .2 in
-    (start .pre .1 .0 .scannable, pairs-within (path .1 .0), starts-within (start .args .sheet .now) (start .args .from) (path .0) (path .1 .1), start .pre .1 .1)
+    (start .pre .1 .0 .scannable, starts-within (start .args .sheet .now) (start .args .from) (path .0) (path .1 .1), start .pre .1 .1)
+
+visit-node-at-requires : (t : ℕ) → visit-lts.Need-node-at-requires (visit-claims t) (visit-at t) visit.Post
+visit-node-at-requires t c κs = let start = c .before .before .before .before .before .before .before .before .before .before .before .before .before in
+    (start .pre .1 .0 .scannable, pairs-within (start .pre .1 .2 .1 .0), c .before .before .before .locate .ensures .1 .0)
 
 visit-enum-told : (t : ℕ) → visit-lts.Need-enum-told (visit-claims t) (visit-at t) visit.Post
 visit-enum-told t c = search needs
 
-visit-add-t28 : (t : ℕ) → visit-lts.Need-add-t28 (visit-claims t) (visit-at t) visit.Post
-visit-add-t28 t c = search needs
+visit-add-t29 : (t : ℕ) → visit-lts.Need-add-t29 (visit-claims t) (visit-at t) visit.Post
+visit-add-t29 t c = search needs
 
 visit-write-requires : (t : ℕ) → visit-lts.Need-write-requires (visit-claims t) (visit-at t) visit.Post
-visit-write-requires t c κs = let start = c .before .before .before .before .before .before .before .before .before .before .before .before .before .before .before .before in
-    (has-place (start .args .store .now) (start .args .before) (visit-room t (c .before .before .before .before .before .before .before .before)) (start .args .store .now) refl, tt)
+visit-write-requires t c κs = let start = c .before .before .before .before .before .before .before .before .before .before .before .before .before .before .before .before .before in
+    (has-place (start .args .store .now) (start .args .before) (visit-room t (c .before .before .before .before .before .before .before .before .before)) (start .args .store .now) refl, tt)
 
 visit-write-grouping-requires : (t : ℕ) → visit-lts.Need-write-grouping-requires (visit-claims t) (visit-at t) visit.Post
-visit-write-grouping-requires t c κs = let start = c .before .before .before .before .before .before .before .before .before .before .before .before .before .before .before .before .before .before .before .before in
+visit-write-grouping-requires t c κs = let start = c .before .before .before .before .before .before .before .before .before .before .before .before .before .before .before .before .before .before .before .before .before in
     (start .pre .1 .0 .lots, entries-within (start .pre .1 .2 .1 .0))
 
-visit-add-t28-2 : (t : ℕ) → visit-lts.Need-add-t28-2 (visit-claims t) (visit-at t) visit.Post
-visit-add-t28-2 t c = search needs
+visit-add-t29-2 : (t : ℕ) → visit-lts.Need-add-t29-2 (visit-claims t) (visit-at t) visit.Post
+visit-add-t29-2 t c = search needs
 
 visit-enum-known-node : (t : ℕ) → visit-lts.Need-enum-known-node (visit-claims t) (visit-at t) visit.Post
 visit-enum-known-node t c = search needs
 
-visit-add-t36 : (t : ℕ) → visit-lts.Need-add-t36 (visit-claims t) (visit-at t) visit.Post
-visit-add-t36 t c = search needs
+visit-add-t37 : (t : ℕ) → visit-lts.Need-add-t37 (visit-claims t) (visit-at t) visit.Post
+visit-add-t37 t c = search needs
 
 visit-write-requires-2 : (t : ℕ) → visit-lts.Need-write-requires-2 (visit-claims t) (visit-at t) visit.Post
-visit-write-requires-2 t c κs = let start = c .before .before .before .before .before .before .before .before .before .before .before .before .before .before .before .before .before in
-    (has-place (start .args .store .now) (start .args .before) (visit-room t (c .before .before .before .before .before .before .before .before .before)) (start .args .store .now) refl, tt)
+visit-write-requires-2 t c κs = let start = c .before .before .before .before .before .before .before .before .before .before .before .before .before .before .before .before .before .before in
+    (has-place (start .args .store .now) (start .args .before) (visit-room t (c .before .before .before .before .before .before .before .before .before .before)) (start .args .store .now) refl, tt)
 
-visit-add-t36-2 : (t : ℕ) → visit-lts.Need-add-t36-2 (visit-claims t) (visit-at t) visit.Post
-visit-add-t36-2 t c = search needs
+visit-add-t37-2 : (t : ℕ) → visit-lts.Need-add-t37-2 (visit-claims t) (visit-at t) visit.Post
+visit-add-t37-2 t c = search needs
 
 visit-enum-known-node-2 : (t : ℕ) → visit-lts.Need-enum-known-node-2 (visit-claims t) (visit-at t) visit.Post
 visit-enum-known-node-2 t c = search needs
 
 visit-branches-requires : (t : ℕ) → visit-lts.Need-branches-requires (visit-claims t) (visit-at t) visit.Post
-visit-branches-requires t c κs = let start = c .before .before .before .before .before .before .before .before .before .before .before .before .before .before .before .before .before .before .before .before in
+visit-branches-requires t c κs = let start = c .before .before .before .before .before .before .before .before .before .before .before .before .before .before .before .before .before .before .before .before .before in
     let path = start .pre .1 .2 in
-    let found = c .before .before .before .before .before .before .before .before .before in
+    let found = c .before .before .before .before .before .before .before in
     let kind = c .before .before .before .before .before .node2 .given .1 in (
       omega (arith, start .pre .0),
       (
         start .pre .1 .0,
-        visit-room t (c .before .before .before .before .before .before .before .before .before .before .before .before),
-        found .node-at .ensures .1 .1 .0,
+        visit-room t (c .before .before .before .before .before .before .before .before .before .before .before .before .before),
+        c .before .before .before .before .before .before .before .before .before .before .before .locate .ensures .1 .1 .0,
         (path .0, (path .1 .0, visit-node t found (path .0) (path .1 .0) (path .1 .1) ∙ ap nodeAs kind, visit-leaves t found (path .0) (path .1 .0) (path .1 .1) _ kind, path .1 .2)),
       ),
     )
@@ -450,15 +457,15 @@ visit-same-length-5 t c = search needs
 
 visit-returns-2 : (t : ℕ) → visit-lts.Need-returns-2 (visit-claims t) (visit-at t) visit.Post
 unfolding groupingBytes
-visit-returns-2 t c = let start = c .before .before .before .before .before .before .before .before .before .before .before .before .before .before .before .before .before .before .before .before .before .before .before in
+visit-returns-2 t c = let start = c .before .before .before .before .before .before .before .before .before .before .before .before .before .before .before .before .before .before .before .before .before .before .before .before in
     let place : start .args .before + 1 - 1 ≡ start .args .before = omega arith in
-    let found = c .before .before .before .before .before .before .before .before .before .before .before .before in (
+    let found = c .before .before .before .before .before .before .before .before .before .before in (
       (λ ds tree st res v.
-          met-explored (start .args .before) (start .args .store .now) _ (start .args .grouping .now) (visit-room t (c .before .before .before .before .before .before .before .before .before .before .before .before .before .before .before)) ds _ tree
+          met-explored (start .args .before) (start .args .store .now) _ (start .args .grouping .now) (visit-room t (c .before .before .before .before .before .before .before .before .before .before .before .before .before .before .before .before)) ds _ tree
           (met-tree v (visit-node t found ds st res ∙ ap nodeAs (c .before .before .before .before .before .before .before .before .enum-told .given .1)))
           (c .before .before .before .before .before .before .write .ensures ∙ ap (λ (k : ℕ). sets (start .args .store .now) (recordLength * k) (encode metRecord)) place)
           (c .before .before .write-grouping .ensures ∙ ap (λ (lots : List ℕ). take (length (start .args .grouping .now)) (drop 1 lots)) (st .represents .lots))),
-      ((λ i h. refl), found .node-at .ensures .1 .1 .1),
+      ((λ i h. refl), c .before .before .before .before .before .before .before .before .before .before .before .before .before .before .locate .ensures .1 .1 .1),
     )
 
 visit-same-length-6 : (t : ℕ) → visit-lts.Need-same-length-6 (visit-claims t) (visit-at t) visit.Post
@@ -471,15 +478,15 @@ visit-same-length-8 : (t : ℕ) → visit-lts.Need-same-length-8 (visit-claims t
 visit-same-length-8 t c = search needs
 
 visit-returns-3 : (t : ℕ) → visit-lts.Need-returns-3 (visit-claims t) (visit-at t) visit.Post
-visit-returns-3 t c = let start = c .before .before .before .before .before .before .before .before .before .before .before .before .before .before .before .before .before .before .before .before in
+visit-returns-3 t c = let start = c .before .before .before .before .before .before .before .before .before .before .before .before .before .before .before .before .before .before .before .before .before in
     let place : start .args .before + 1 - 1 ≡ start .args .before = omega arith in
-    let found = c .before .before .before .before .before .before .before .before .before in
+    let found = c .before .before .before .before .before .before .before in
     let condition = c .before .before .before .before .before .node .given in (
       (λ ds tree st res v.
-          ground-explored (start .args .before) (start .args .store .now) _ (start .args .grouping .now) (visit-room t (c .before .before .before .before .before .before .before .before .before .before .before .before)) (condition .0 .0 .0) tree
+          ground-explored (start .args .before) (start .args .store .now) _ (start .args .grouping .now) (visit-room t (c .before .before .before .before .before .before .before .before .before .before .before .before .before)) (condition .0 .0 .0) tree
           (ground-tree v (visit-node t found ds st res ∙ ap nodeAs (condition .1)))
           (c .before .before .write2 .ensures ∙ ap (λ (k : ℕ). sets (start .args .store .now) (recordLength * k) (encode (groundRecord (condition .0 .0 .0)))) place)),
-      ((λ i h. refl), found .node-at .ensures .1 .1 .1),
+      ((λ i h. refl), c .before .before .before .before .before .before .before .before .before .before .before .locate .ensures .1 .1 .1),
     )
 
 visit-same-length-9 : (t : ℕ) → visit-lts.Need-same-length-9 (visit-claims t) (visit-at t) visit.Post
@@ -497,9 +504,9 @@ visit-same-length-12 t c = search needs
 visit-returns-4 : (t : ℕ) → visit-lts.Need-returns-4 (visit-claims t) (visit-at t) visit.Post
 visit-returns-4 t c = let under = c .before .before .before .before .before .before .before .before .branches in
     let kind = c .before .before .before .before .before .before .before .before .before .before .before .before .before .before .node2 .given .1 in
-    let found = c .before .before .before .before .before .before .before .before .before .before .before .before .before .before .before .before .before .before in (
+    let found = c .before .before .before .before .before .before .before .before .before .before .before .before .before .before .before .before in (
       (λ ds tree st res v. under .ensures .0 ds tree st (visit-node t found ds st res ∙ ap nodeAs kind) (visit-leaves t found ds st res _ kind) v),
-      (under .ensures .1 .0, later-through _ _ _ _ (found .node-at .ensures .1 .1 .1) (under .ensures .1 .1)),
+      (under .ensures .1 .0, later-through _ _ _ _ (c .before .before .before .before .before .before .before .before .before .before .before .before .before .before .before .before .before .before .before .before .locate .ensures .1 .1 .1) (under .ensures .1 .1)),
     )
 
 pub +branches+visit-spec : {M : Type 1} → statement M
@@ -565,6 +572,8 @@ pub +branches+visit-spec : {M : Type 1} → statement M
     λ t. visit-lts.spec (
       capacity-of-reads.Asked,
       capacity-of-reads.Learnt,
+      locate-reads.Asked,
+      locate-reads.Learnt,
       node-at-reads.Asked,
       node-at-reads.Learnt,
       write-reads.Asked,
@@ -579,16 +588,17 @@ pub +branches+visit-spec : {M : Type 1} → statement M
     (visit-capacity-of-requires t)
     (visit-same-length t)
     (visit-returns t)
+    (visit-locate-requires t)
     (visit-node-at-requires t)
     (visit-enum-told t)
-    (visit-add-t28 t)
+    (visit-add-t29 t)
     (visit-write-requires t)
     (visit-write-grouping-requires t)
-    (visit-add-t28-2 t)
+    (visit-add-t29-2 t)
     (visit-enum-known-node t)
-    (visit-add-t36 t)
+    (visit-add-t37 t)
     (visit-write-requires-2 t)
-    (visit-add-t36-2 t)
+    (visit-add-t37-2 t)
     (visit-enum-known-node-2 t)
     (visit-branches-requires t)
     (visit-same-length-2 t)

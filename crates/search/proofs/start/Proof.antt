@@ -1,6 +1,6 @@
 -- `search::start`: with no decision the map has every lot alone and there are no pairs and no marks; what is visited from there is the search.
 use borrow.Author.Needs.{needs}
-use Prim.Native.Nat.{_≤_}
+use Prim.Native.Nat.{_+_, _*_, _/_, _≤_}
 use mathlib.Core.List.{[]}
 use mathlib.Core.Path.{refl, sym}
 use native.Mathlib.Omega.{arith}
@@ -20,23 +20,35 @@ new-requires c κs = search needs
 slice-aggregate-visit : tie.Need-slice-aggregate-visit
 slice-aggregate-visit c = search needs
 
--- There are no more conditions than marks.
-marks-within : (c : tie.Start) → c .args .m ≤ 256
-marks-within c = omega (arith, c .pre .scannable .counted, sound (c .args .sheet .now) (c .pre .scannable .accepted) .header .conditions)
+sub-room : tie.Need-sub-room
+sub-room c = search needs
+
+add-room : tie.Need-add-room
+add-room c = search needs
+
+mul-room : tie.Need-mul-room
+mul-room c = search needs
+
+-- There are no more conditions than marks, by whole groups too.
+marks-within : (c : tie.Start) → (16 * ((c .args .m + 15) / 16) ≤ 256) × (c .args .m ≤ 16 * ((c .args .m + 15) / 16))
+marks-within c =
+    let most = sound (c .args .sheet .now) (c .pre .scannable .accepted) .header .conditions in
+    (omega (arith, c .pre .scannable .counted, most), omega arith)
 
 array-borrow-prefix-marks : tie.Need-array-borrow-prefix-marks
-array-borrow-prefix-marks c = omega (arith, marks-within (c .before .before .before .before .before .before .before))
+array-borrow-prefix-marks c = omega (arith, marks-within (c .before .before .before .before .before .before .before) .0)
 
 slice-aggregate-visit-2 : tie.Need-slice-aggregate-visit-2
-slice-aggregate-visit-2 c = sym (length-take-le _ _ (omega (arith, marks-within (c .before .before .before .before .before .before .before .before))))
+slice-aggregate-visit-2 c = sym (length-take-le _ _ (omega (arith, marks-within (c .before .before .before .before .before .before .before .before) .0)))
 
 visit-requires : tie.Need-visit-requires
 visit-requires c κs =
     let begin = c .before .before .before .before .before .before .before .before in
     let s = begin .args .sheet .now in
+    let within = marks-within begin in
     let ok = begin .pre .scannable .accepted in (
       begin .pre,
-      start-marked _ s 256 (begin .args .m) (marks-within begin) (begin .pre .scannable .counted),
+      start-marked _ s 256 (16 * ((begin .args .m + 15) / 16)) (within .0) (omega (arith, within .1, begin .pre .scannable .counted)),
       ([], (start-standing s ok _ _ (c .before .before .before .before .new .ensures) refl, tt, start-level s ok)),
     )
 
@@ -59,6 +71,9 @@ pub start-spec : {M : Type 1} → statement M
 start-spec =
     tie.close
     (tie.spec
+    sub-room
+    add-room
+    mul-room
     new-requires
     slice-aggregate-visit
     array-borrow-prefix-marks
