@@ -5,10 +5,9 @@ use mathlib.Core.List.{List, [], _∷_, _++_, append-assoc}
 use mathlib.Core.Path.{_≡_, refl, sym, ap, _∙_}
 use Rattle.sheet.specs.Format.{recordCount, headAt}
 use Rattle.sheet.specs.Conditions.{Term, apart, termsFrom, conditionAt, conditions}
-use Rattle.equality.specs.Node.{Decisions, classes, passedOver, noCondition, takes, taken, met, groundOrSplit, nodeOf, node}
+use Rattle.equality.specs.Node.{Decisions, passedOver, noCondition, takes, taken, met, groundOrSplit, nodeOf, node}
 use Rattle.equality.proofs.Node.{taken-apart, passed-by}
 use Rattle.equality.proofs.Rule.{taken-at, no-open}
-use Rattle.node.specs.Settled.{SettledBut}
 use Rattle.node.specs.Resume.{PassesTo, ResumesWithin}
 use Rattle.node.proofs.Opening.{all-both, unsettled-rest, NoneOpen, none-ground, none-later}
 
@@ -20,11 +19,10 @@ unfolding node
 none-met ds s e = rw e
 
 -- the condition taken is gone on within from its head on.
-pub head-resumes : (ds : Decisions) (s : List ℕ) (c settled : ℕ) → headAt s c ≤ recordCount s → taken ds 1 (conditions s) ≡ takes c (conditionAt s c)
-    → SettledBut (classes ds) s c settled → ResumesWithin s c (headAt s c) settled ds
+pub head-resumes : (ds : Decisions) (s : List ℕ) (c : ℕ) → headAt s c ≤ recordCount s → taken ds 1 (conditions s) ≡ takes c (conditionAt s c)
+    → ResumesWithin s c (headAt s c) ds
 unfolding groundOrSplit
-head-resumes ds s c settled h e others =
-    record { condition = e; passes = record { within = h; passed = []; place = refl; closed = λ d. refl }; others = others }
+head-resumes ds s c h e = record { condition = e; passes = record { within = h; passed = []; place = refl; closed = λ d. refl } }
 
 -- ---- from a record on
 
@@ -32,7 +30,7 @@ head-resumes ds s c settled h e others =
 passed-none : (ds : Decisions) (s : List ℕ) (from r : ℕ) (p : PassesTo s from r ds) → NoneOpen ds (p .passed)
 passed-none ds s from r p = no-open ds 0 (p .passed) 0 (p .closed 0) .1
 
-module _ (s : List ℕ) (c from settled : ℕ) (ds : Decisions) (w : ResumesWithin s c from settled ds) where
+module _ (s : List ℕ) (c from : ℕ) (ds : Decisions) (w : ResumesWithin s c from ds) where
   -- The terms from the record on decide what the node is,
   pub rest-decides : node ds (conditions s) ≡ groundOrSplit ds c (termsFrom s from)
   unfolding node
@@ -47,9 +45,8 @@ module _ (s : List ℕ) (c from settled : ℕ) (ds : Decisions) (w : ResumesWith
       unsettled-rest ds (w .passes .passed) (termsFrom s from)
       (rw (w .passes .place) at (taken-at ds 1 (conditions s) c (conditionAt s c) (w .condition) .unmet))
 
-  -- and once a pair is set apart the same condition is taken, its terms up to the record are not open still, and what was settled is.
-  pub apart-resumes : (a b r : ℕ) → PassesTo s from r (apart a b ∷ ds) → ResumesWithin s c r settled (apart a b ∷ ds)
-  unfolding classes
+  -- and once a pair is set apart the same condition is taken, and its terms up to the record are not open still.
+  pub apart-resumes : (a b r : ℕ) → PassesTo s from r (apart a b ∷ ds) → ResumesWithin s c r (apart a b ∷ ds)
   apart-resumes a b r p =
       record {
         condition = taken-apart ds a b 1 (conditions s) ∙ w .condition;
@@ -67,5 +64,4 @@ module _ (s : List ℕ) (c from settled : ℕ) (ds : Decisions) (w : ResumesWith
                   (none-later ds a b (w .passes .passed) (passed-none ds s (headAt s c) from (w .passes)))
                   (passed-none (apart a b ∷ ds) s from r p));
             };
-        others = w .others;
       }

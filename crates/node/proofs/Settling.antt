@@ -1,27 +1,30 @@
 -- Conditions that are settled stay so: the scan may leave them out. A join leaves lots that share a class in one, and a pair set apart changes no class.
-use Prim.Native.Nat.{ℕ, zero, suc, _+_, _≤_, _<_, min}
+-- The marks say which are settled, and at which level of the path they were seen to be.
+use Prim.Native.Nat.{ℕ, zero, suc, _+_, _-_, _≤_, _<_, min}
 use mathlib.Core.Bool.{Bool, true, false, cond, _||_, or-true, false≢true, Bool·beq}
 use mathlib.Core.List.{List, [], _∷_, _++_}
+use mathlib.Core.Logic.{_≢_, _⊎_, inl, inr}
 use mathlib.Core.Path.{_≡_, refl, sym, ap, _∙_}
 use native.Mathlib.Omega.{arith}
-use borrow.Author.Tests.{eqb-true, eqb-false, eq-eqb}
-use lib.Dec.{eqb}
-use lib.ListN.{getD}
+use borrow.Author.Tests.{eqb-true, eqb-false, eq-eqb, lt-ltb, le-ltb}
+use lib.Dec.{eqb, ltb}
+use lib.ListN.{length, getD, set, length-set, length-append}
+use lib.Seq.{getD-set-same, getD-set-other}
 use Rattle.sheet.specs.Format.{conditionCount, recordCount, nextAt}
 use Rattle.sheet.specs.Checks.{Accepted}
 use Rattle.sheet.specs.Conditions.{Term, same, apart, termOf, termAt, termsFrom, conditionAt, conditions}
 use Rattle.sheet.proofs.Ranges.{All}
+use Rattle.sheet.proofs.Conditions.{conditions-length}
 use Rattle.sheet.proofs.ChainEnds.{terms-step}
 use Rattle.equality.specs.Meaning.{holds, someTerm, meetsCondition}
 use Rattle.equality.specs.Node.{Decisions, merged, classOf, classes, takes, taken, split, groundOrSplit, nodeOf, node}
 use Rattle.equality.proofs.Small.{all-map}
 use Rattle.equality.proofs.Some.{some-false, some-none, some-here}
-use Rattle.equality.proofs.Node.{taken-values}
+use Rattle.equality.proofs.Node.{taken-values, passed-by-classes}
 use Rattle.equality.proofs.Rule.{taken-at, OpenAt, open-at}
 use Rattle.equality.proofs.Classes.{joinedTo}
 use Rattle.equality.proofs.Passing.{Passing}
-use Rattle.node.specs.Settled.{sharing, settledBy, Settled, SettledBut}
-use Rattle.node.proofs.Scanning.{Scanning, scanning-start, scanning-next}
+use Rattle.node.specs.Settled.{sharing, settledBy, Marked, Later, ClearedAbove}
 
 -- Where one test is passed another is: so by some term of a condition.
 module _ (p q : Term → Bool) (also : (t : Term) → p t ≡ true → q t ≡ true) where
@@ -39,48 +42,17 @@ module _ (p q : Term → Bool) (also : (t : Term) → p t ≡ true → q t ≡ t
       go true e = e
       go false e = absurd (false≢true (sym (some-false p ts (all-map not-either ts (some-none q ts e))) ∙ h))
 
--- ---- the scan may start after them
-
--- The classes meet a settled condition,
-settled-met : (cs : List ℕ) (ts : List Term) → settledBy cs ts ≡ true → meetsCondition (classOf cs) ts ≡ true
+-- The classes meet a settled condition.
+pub settled-met : (cs : List ℕ) (ts : List Term) → settledBy cs ts ≡ true → meetsCondition (classOf cs) ts ≡ true
 settled-met cs ts = some-also (sharing cs) (holds (classOf cs)) true-too ts
   where
     true-too : (t : Term) → sharing cs t ≡ true → holds (classOf cs) t ≡ true
     true-too (same a b) e = e
     true-too (apart a b) e = absurd (false≢true e)
 
--- so what is taken is among those after the settled ones.
-pub scanning-from : (cs s : List ℕ) (count : ℕ) → Settled cs s count → Scanning (classOf cs) s count
-scanning-from cs s count l = go count (omega arith)
-  where
-    go : (k : ℕ) → k ≤ count → Scanning (classOf cs) s k
-    go zero h = scanning-start (classOf cs) s
-    go (suc k) h =
-        scanning-next (classOf cs) s k (go k (omega arith)) (omega (arith, l .within))
-        (settled-met cs (conditionAt s (suc k)) (l .each (suc k) (omega arith) h))
-
 -- ---- in the scan
 
 module _ (cs s : List ℕ) where
-  -- Once condition c is settled, at least as many are as before;
-  pub but-any : (c count : ℕ) → Settled cs s count → SettledBut cs s c count
-  but-any c count l = record { within = l .within; each = λ i low high other. l .each i low high }
-
-  -- where it is the one after them, it is one more.
-  pub but-next : (c count : ℕ) → Settled cs s count → count + 1 ≡ c → c ≤ conditionCount s → SettledBut cs s c c
-  but-next c count l e h = record { within = h; each = λ i low high other. l .each i low (go i high other) }
-    where
-      go : (i : ℕ) → i ≤ c → (i ≡ c → ⊥) → i ≤ count
-      go i high other = omega arith
-
-  pub settled-here : (c count : ℕ) → SettledBut cs s c count → settledBy cs (conditionAt s c) ≡ true → Settled cs s count
-  settled-here c count l e =
-      record { within = l .within; each = λ i low high. go i (eqb i c) refl (l .each i low high) }
-    where
-      go : (i : ℕ) (b : Bool) → eqb i c ≡ b → ((i ≡ c → ⊥) → settledBy cs (conditionAt s i) ≡ true) → settledBy cs (conditionAt s i) ≡ true
-      go i true q rest = ap (λ (d : ℕ). settledBy cs (conditionAt s d)) (eqb-true i c q) ∙ e
-      go i false q rest = rest (eqb-false i c q)
-
   -- The condition of a chain is settled by a term that the loop over it finds.
   pub found-sharing : (q : Term → Bool) (ok : Accepted s) (head at : ℕ) → Passing q s head at → 1 ≤ at → sharing cs (termAt s at) ≡ true
       → settledBy cs (termsFrom s head) ≡ true
@@ -136,20 +108,149 @@ pair-shares cs a b =
     let y = classOf cs b in
     eq-eqb _ _ (joined-class x y cs a ∙ first-joins x y ∙ sym (joined-class x y cs b ∙ second-joins x y))
 
--- In the same branch of a split the condition taken is settled, and all that were.
-pub same-settled : (ds : Decisions) (s : List ℕ) (c a b count : ℕ) → node ds (conditions s) ≡ split a b → taken ds 1 (conditions s) ≡ takes c (conditionAt s c)
-    → SettledBut (classes ds) s c count → Settled (classes (same a b ∷ ds)) s count
-unfolding classes node
-same-settled ds s c a b count e t l =
-    settled-here _ s c count
-    (record {
-      within = l .within;
-      each = λ i low high other. settled-joined _ _ (classes ds) (conditionAt s i) (l .each i low high other);
-    })
-    (ap (settledBy (merged (classOf (classes ds) a) (classOf (classes ds) b) (classes ds))) (first .place)
-    ∙ some-here (sharing (merged (classOf (classes ds) a) (classOf (classes ds) b) (classes ds))) (first .before) (same a b) (first .after) (pair-shares (classes ds) a b))
+-- In the same branch of a split the condition taken is settled.
+split-settles : (ds : Decisions) (s : List ℕ) (c a b : ℕ) → node ds (conditions s) ≡ split a b → taken ds 1 (conditions s) ≡ takes c (conditionAt s c)
+    → settledBy (merged (classOf (classes ds) a) (classOf (classes ds) b) (classes ds)) (conditionAt s c) ≡ true
+unfolding node
+split-settles ds s c a b e t =
+    ap (settledBy (merged (classOf (classes ds) a) (classOf (classes ds) b) (classes ds))) (first .place)
+    ∙ some-here (sharing (merged (classOf (classes ds) a) (classOf (classes ds) b) (classes ds))) (first .before) (same a b) (first .after) (pair-shares (classes ds) a b)
   where
     first : OpenAt ds (conditionAt s c) a b
     first =
         open-at ds c (conditionAt s c) a b (taken-values ds (conditionAt s c) (taken-at ds 1 (conditions s) c (conditionAt s c) t .unmet))
         (sym (ap (nodeOf ds) t) ∙ e)
+
+-- The condition taken is one of the sheet's.
+pub taken-number : (ds : Decisions) (s : List ℕ) (c : ℕ) (ts : List Term) → taken ds 1 (conditions s) ≡ takes c ts → (1 ≤ c) × (c ≤ conditionCount s)
+taken-number ds s c ts e =
+    let at = taken-at ds 1 (conditions s) c ts e in
+    let long : length (conditions s) ≡ length (at .front) + length (ts ∷ at .back) = ap length (at .place) ∙ length-append (at .front) (ts ∷ at .back) in
+    (omega (arith, at .number), omega (arith, at .number, long, conditions-length s))
+
+-- ---- later marks
+
+pub later-none : (marks : List ℕ) (level : ℕ) → Later marks marks level
+later-none marks level = record { sized = refl; each = λ i. inl refl }
+
+pub later-through : (marks marks′ marks″ : List ℕ) (level : ℕ) → Later marks marks′ level → Later marks′ marks″ level → Later marks marks″ level
+later-through marks marks′ marks″ level one two = record { sized = two .sized ∙ one .sized; each = λ i. go i (one .each i) (two .each i) }
+  where
+    go : (i : ℕ) → (getD marks′ i 0 ≡ getD marks i 0) ⊎ ((getD marks i 0 ≡ 0) × (level ≤ getD marks′ i 0))
+        → (getD marks″ i 0 ≡ getD marks′ i 0) ⊎ ((getD marks′ i 0 ≡ 0) × (level ≤ getD marks″ i 0))
+        → (getD marks″ i 0 ≡ getD marks i 0) ⊎ ((getD marks i 0 ≡ 0) × (level ≤ getD marks″ i 0))
+    go i (inl e) (inl f) = inl (f ∙ e)
+    go i (inl e) (inr f) = inr (sym e ∙ f .0, f .1)
+    go i (inr e) (inl f) = inr (e .0, omega (arith, e .1, f))
+    go i (inr e) (inr f) = inr (e .0, f .1)
+
+-- What is of a later level is later than this one.
+pub later-above : (marks marks′ : List ℕ) (level : ℕ) → Later marks marks′ (level + 1) → Later marks marks′ level
+later-above marks marks′ level l = record { sized = l .sized; each = λ i. go i (l .each i) }
+  where
+    go : (i : ℕ) → (getD marks′ i 0 ≡ getD marks i 0) ⊎ ((getD marks i 0 ≡ 0) × (level + 1 ≤ getD marks′ i 0))
+        → (getD marks′ i 0 ≡ getD marks i 0) ⊎ ((getD marks i 0 ≡ 0) × (level ≤ getD marks′ i 0))
+    go i (inl e) = inl e
+    go i (inr e) = inr (e .0, omega (arith, e .1))
+
+-- ---- one mark more
+
+module _ (marks : List ℕ) (i level : ℕ) (h : i < length marks) where
+  by-place : (P : ℕ → ℕ → Type 0) → P i level → ((j : ℕ) → j ≢ i → P j (getD marks j 0)) → (j : ℕ) → P j (getD (set marks i level) j 0)
+  by-place P here others j = go (eqb j i) refl
+    where
+      go : (b : Bool) → eqb j i ≡ b → P j (getD (set marks i level) j 0)
+      go true e =
+          let same-place : j ≡ i = eqb-true j i e in
+          rw same-place (rw (getD-set-same marks i level 0 h) here)
+      go false e = rw (getD-set-other marks i j level 0 (eqb-false j i e)) (others j (eqb-false j i e))
+
+  -- where there was none it is a later one,
+  pub later-settle : getD marks i 0 ≡ 0 → Later marks (set marks i level) level
+  later-settle none =
+      record {
+        sized = length-set marks i level;
+        each =
+            by-place (λ j v. (v ≡ getD marks j 0) ⊎ ((getD marks j 0 ≡ 0) × (level ≤ v)))
+            (inr (none, omega arith)) (λ j other. inl refl);
+      }
+
+  -- and it may be written where the condition is settled.
+  pub marked-settle : (cs s : List ℕ) → Marked cs s marks level → settledBy cs (conditionAt s (suc i)) ≡ true → Marked cs s (set marks i level) level
+  marked-settle cs s l e =
+      record {
+        low = l .low;
+        sized = omega (arith, length-set marks i level, l .sized);
+        high = by-place (λ j v. v ≤ level) (omega arith) (λ j other. l .high j);
+        each = by-place (λ j v. v ≢ 0 → settledBy cs (conditionAt s (suc j)) ≡ true) (λ n. e) (λ j other. l .each j);
+      }
+
+-- So by a loop that writes it.
+pub settled-next : (cs s marks₀ marks marks′ : List ℕ) (level i : ℕ) → marks′ ≡ marks → i < length marks → getD marks i 0 ≡ 0 → settledBy cs (conditionAt s (suc i)) ≡ true
+    → Marked cs s marks level → Later marks₀ marks level → Marked cs s (set marks′ i level) level × Later marks₀ (set marks′ i level) level
+settled-next cs s marks₀ marks marks′ level i e h none settled l later =
+    rw e (marked-settle marks i level h cs s l settled, later-through marks₀ marks (set marks i level) level later (later-settle marks i level h none))
+
+-- ---- the two branches of a split
+
+-- No condition that is taken is marked: it is not met.
+taken-unmarked : (ds : Decisions) (s marks : List ℕ) (level i : ℕ) → Marked (classes ds) s marks level → taken ds 1 (conditions s) ≡ takes (suc i) (conditionAt s (suc i))
+    → getD marks i 0 ≡ 0
+taken-unmarked ds s marks level i l t = go (eqb (getD marks i 0) 0) refl
+  where
+    go : (b : Bool) → eqb (getD marks i 0) 0 ≡ b → getD marks i 0 ≡ 0
+    go true e = eqb-true _ _ e
+    go false e =
+        absurd
+        (false≢true
+        (sym (taken-at ds 1 (conditions s) (suc i) (conditionAt s (suc i)) t .unmet)
+        ∙ passed-by-classes ds (conditionAt s (suc i))
+        ∙ settled-met (classes ds) (conditionAt s (suc i)) (l .each i (eqb-false _ _ e))))
+
+-- In the same branch, of the next level, what was settled is, and the condition taken is marked too.
+module _ (ds : Decisions) (s marks : List ℕ) (c a b level : ℕ) (l : Marked (classes ds) s marks level)
+    (e : node ds (conditions s) ≡ split a b) (t : taken ds 1 (conditions s) ≡ takes c (conditionAt s c)) where
+  number : suc (c - 1) ≡ c
+  number = omega (arith, taken-number ds s c (conditionAt s c) t)
+
+  place : c - 1 < length marks
+  place = omega (arith, taken-number ds s c (conditionAt s c) t, l .sized)
+
+  joined-marked : Marked (merged (classOf (classes ds) a) (classOf (classes ds) b) (classes ds)) s marks (level + 1)
+  joined-marked =
+      record {
+        low = omega arith;
+        sized = l .sized;
+        high = λ i. omega (arith, l .high i);
+        each = λ i n. settled-joined _ _ (classes ds) (conditionAt s (suc i)) (l .each i n);
+      }
+
+  pub same-marked : Marked (merged (classOf (classes ds) a) (classOf (classes ds) b) (classes ds)) s (set marks (c - 1) (level + 1)) (level + 1)
+  same-marked =
+      marked-settle marks (c - 1) (level + 1) place (merged (classOf (classes ds) a) (classOf (classes ds) b) (classes ds)) s joined-marked
+      (rw number (split-settles ds s c a b e t))
+
+  pub same-later : Later marks (set marks (c - 1) (level + 1)) (level + 1)
+  same-later = later-settle marks (c - 1) (level + 1) place (taken-unmarked ds s marks level (c - 1) l (rw number t))
+
+-- Before the apart branch the marks above the level are taken back: each is what it was.
+module _ (cs s marks marks′ marks″ : List ℕ) (level : ℕ) (l : Marked cs s marks level) (over : Later marks marks′ (level + 1)) (cleared : ClearedAbove marks′ marks″ level) where
+  restored : (i : ℕ) → getD marks″ i 0 ≡ getD marks i 0
+  restored i = cleared .each i ∙ go (over .each i)
+    where
+      go : (getD marks′ i 0 ≡ getD marks i 0) ⊎ ((getD marks i 0 ≡ 0) × (level + 1 ≤ getD marks′ i 0))
+          → cond (ltb level (getD marks′ i 0)) 0 (getD marks′ i 0) ≡ getD marks i 0
+      go (inl e) = rw e (rw (le-ltb level (getD marks i 0) (l .high i)) refl)
+      go (inr e) = rw (lt-ltb level (getD marks′ i 0) (omega (arith, e .1))) (sym (e .0))
+
+  pub restored-marked : Marked cs s marks″ level
+  restored-marked =
+      record {
+        low = l .low;
+        sized = omega (arith, cleared .sized, over .sized, l .sized);
+        high = λ i. omega (arith, restored i, l .high i);
+        each = λ i n. l .each i (λ none. n (restored i ∙ none));
+      }
+
+  pub restored-later : Later marks marks″ level
+  restored-later = record { sized = cleared .sized ∙ over .sized; each = λ i. inl (restored i) }

@@ -4,13 +4,14 @@ use mathlib.Core.List.{List, _∷_, _++_}
 use mathlib.Core.Path.{_≡_}
 use Rattle.sheet.specs.Format.{recordCount, headAt}
 use Rattle.sheet.specs.Conditions.{Term, apart, termsFrom, conditionAt, conditions}
-use Rattle.equality.specs.Node.{Decisions, classes, takes, taken, Node, met, ground, split, groundOrSplit}
-use Rattle.node.specs.Settled.{Settled, SettledBut}
+use Rattle.equality.specs.Node.{Decisions, noCondition, takes, taken, Node, met, ground, split, groundOrSplit}
 use Rattle.node.specs.declared.Node as declared
 use Rattle.node.specs.declared.Node.the-variants.{Met, Ground, Split}
 use Rattle.node.specs.declared.Split as pair
 use Rattle.node.specs.declared.Open as first
 use Rattle.node.specs.declared.Open.the-variants.{At, Nothing}
+use Rattle.node.specs.declared.Place.{Place}
+use Rattle.node.specs.declared.Place.the-variants as spot
 use Rattle.node.specs.declared.Resume.{Resume}
 use Rattle.node.specs.declared.Resume.the-variants.{Scan, Within}
 
@@ -35,22 +36,30 @@ pub record PassesTo (s : List ℕ) (from r : ℕ) (ds : Decisions) : Type 0 wher
   pub place : termsFrom s from ≡ passed ++ termsFrom s r
   pub closed : (c : ℕ) → groundOrSplit ds c passed ≡ ground c
 
--- A visit may go on within condition c, from record r on: the node of these decisions takes that condition, none of its terms before that record is
--- open, and so many of the first conditions are settled once it is.
-pub record ResumesWithin (s : List ℕ) (c r settled : ℕ) (ds : Decisions) : Type 0 where
+-- A visit may go on within condition c, from record r on: the node of these decisions takes that condition, and none of its terms before that record is
+-- open.
+pub record ResumesWithin (s : List ℕ) (c r : ℕ) (ds : Decisions) : Type 0 where
   pub condition : taken ds 1 (conditions s) ≡ takes c (conditionAt s c)
   pub passes : PassesTo s (headAt s c) r ds
-  pub others : SettledBut (classes ds) s c settled
 
--- A visit may go on so, for these decisions: it scans the conditions after those that are settled, or goes on within one.
+-- A visit may go on so, for these decisions.
 abbrev pub Resumes : List ℕ → Resume → Decisions → Type 0
-Resumes s (Scan settled) ds = Settled (classes ds) s settled
-Resumes s (Within c r settled) ds = ResumesWithin s (c .0) (r .0) settled ds
+Resumes s Scan ds = Unit {0}
+Resumes s (Within c r) ds = ResumesWithin s (c .0) (r .0) ds
 
--- By the classes of a map: the conditions that it does not scan are settled; the record from which it goes on is one of the sheet's, or 0.
-abbrev pub StartsWithin : List ℕ → List ℕ → Resume → Type 0
-StartsWithin s cs (Scan settled) = Settled cs s settled
-StartsWithin s cs (Within c r settled) = r .0 ≤ recordCount s
+-- The record from which it goes on is one of the sheet's, or 0.
+abbrev pub StartsWithin : List ℕ → Resume → Type 0
+StartsWithin s Scan = Unit {0}
+StartsWithin s (Within c r) = r .0 ≤ recordCount s
+
+-- The node of these decisions takes the condition of this place, and none of its terms before the record is open; or it takes none.
+abbrev pub Stands : List ℕ → Place → Decisions → Type 0
+Stands s (spot.Within c r) ds = ResumesWithin s (c .0) (r .0) ds
+Stands s spot.Nowhere ds = taken ds 1 (conditions s) ≡ noCondition
+
+abbrev pub PlaceWithin : List ℕ → Place → Type 0
+PlaceWithin s (spot.Within c r) = r .0 ≤ recordCount s
+PlaceWithin s spot.Nowhere = Unit {0}
 
 -- ---- what a split says of its apart branch
 
@@ -61,7 +70,7 @@ OpenLeaves s from Nothing ds = Unit {0}
 
 -- The apart branch may go on where the split says.
 abbrev pub SplitLeaves : List ℕ → pair.Split → Decisions → Type 0
-SplitLeaves s on ds = ResumesWithin s (on .condition .0) (on .after .0) (on .settled) (apart (on .a .0) (on .b .0) ∷ ds)
+SplitLeaves s on ds = ResumesWithin s (on .condition .0) (on .after .0) (apart (on .a .0) (on .b .0) ∷ ds)
 
 abbrev pub Leaves : List ℕ → declared.Node → Decisions → Type 0
 Leaves s Met ds = Unit {0}

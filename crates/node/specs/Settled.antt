@@ -1,10 +1,11 @@
 -- Conditions that are settled for good, for the contracts of the inner functions; this file states nothing of document 01.
-use Prim.Native.Nat.{ℕ, _≤_}
-use mathlib.Core.Bool.{Bool, true, false}
+use Prim.Native.Nat.{ℕ, suc, _≤_}
+use mathlib.Core.Bool.{Bool, true, false, cond}
 use mathlib.Core.List.{List}
-use mathlib.Core.Logic.{_≢_}
+use mathlib.Core.Logic.{_≢_, _⊎_}
 use mathlib.Core.Path.{_≡_}
-use lib.Dec.{eqb}
+use lib.Dec.{eqb, ltb}
+use lib.ListN.{length, getD}
 use Rattle.sheet.specs.Format.{conditionCount}
 use Rattle.sheet.specs.Conditions.{Term, same, apart, conditionAt}
 use Rattle.equality.specs.Meaning.{someTerm}
@@ -19,12 +20,19 @@ sharing cs (apart a b) = false
 abbrev pub settledBy : List ℕ → List Term → Bool
 settledBy cs ts = someTerm (sharing cs) ts
 
--- The first `count` conditions are settled.
-pub record Settled (cs s : List ℕ) (count : ℕ) : Type 0 where
-  pub within : count ≤ conditionCount s
-  pub each : (i : ℕ) → 1 ≤ i → i ≤ count → settledBy cs (conditionAt s i) ≡ true
+-- The marks of a path, one a condition, and maybe some after them that stay 0: 0, or the level at which the condition was seen to be settled, which is none above this one.
+pub record Marked (cs s marks : List ℕ) (level : ℕ) : Type 0 where
+  pub low : 1 ≤ level
+  pub sized : conditionCount s ≤ length marks
+  pub high : (i : ℕ) → getD marks i 0 ≤ level
+  pub each : (i : ℕ) → getD marks i 0 ≢ 0 → settledBy cs (conditionAt s (suc i)) ≡ true
 
--- They are once condition c is: all but that one are.
-pub record SettledBut (cs s : List ℕ) (c count : ℕ) : Type 0 where
-  pub within : count ≤ conditionCount s
-  pub each : (i : ℕ) → 1 ≤ i → i ≤ count → i ≢ c → settledBy cs (conditionAt s i) ≡ true
+-- Marks were written where there was none, of this level or of later ones.
+pub record Later (marks marks′ : List ℕ) (level : ℕ) : Type 0 where
+  pub sized : length marks′ ≡ length marks
+  pub each : (i : ℕ) → (getD marks′ i 0 ≡ getD marks i 0) ⊎ ((getD marks i 0 ≡ 0) × (level ≤ getD marks′ i 0))
+
+-- The marks above a level are taken back.
+pub record ClearedAbove (marks marks′ : List ℕ) (level : ℕ) : Type 0 where
+  pub sized : length marks′ ≡ length marks
+  pub each : (i : ℕ) → getD marks′ i 0 ≡ cond (ltb level (getD marks i 0)) 0 (getD marks i 0)

@@ -1,14 +1,15 @@
 // One node of the search: the condition that it takes, and what it is.
 ghost use mathlib.Core.Bool.{false};
 ghost use mathlib.Core.Path.{_≡_};
-ghost use Prim.Native.Nat.{ℕ, _≤_};
+ghost use Prim.Native.Nat.{ℕ, _-_, _≤_};
+ghost use lib.ListN.{length, set};
 ghost use Rattle.sheet.specs.Format.{recordCount};
 ghost use Rattle.sheet.specs.Conditions.{termsFrom, conditions};
 ghost use Rattle.equality.specs.Node.{Decisions, classes, passedOver, taken, groundOrSplit, node};
 ghost use Rattle.classes.specs.Pairs.{PairsWithin, Represents};
-ghost use Rattle.node.specs.Settled.{Settled};
+ghost use Rattle.node.specs.Settled.{Marked, Later, ClearedAbove};
 ghost use Rattle.node.specs.Scan.{takenAs, TakenWithin, Scannable};
-ghost use Rattle.node.specs.Resume.{openAs, OpenLeaves, nodeAs, ResumesWithin, Resumes, Leaves, StartsWithin};
+ghost use Rattle.node.specs.Resume.{openAs, OpenLeaves, nodeAs, ResumesWithin, Resumes, Leaves, StartsWithin, Stands, PlaceWithin};
 use classes::Classes;
 use sheet::Condition;
 use sheet::Lot;
@@ -26,21 +27,25 @@ pub enum Open {
     Nothing,
 }
 
-// Where a visit goes on: scan the conditions after so many that are settled; or within this condition, from this record on (the apart branch of a split: the
-// same condition is taken, and no term up to the split term is open any more), where so many are settled once this one is.
+// Where a visit goes on: scan the conditions; or within this condition, from this record on (the apart branch of a split: the same condition is taken,
+// and no term up to the split term is open any more).
 pub enum Resume {
-    Scan(u16),
-    Within(Condition, Record, u16),
+    Scan,
+    Within(Condition, Record),
 }
 
-// A split: its condition and its lots; the record after the term that it splits on, where the apart branch resumes; and how many of the first conditions are
-// settled in the same branch.
+// Where the node's terms are looked at: within the condition that it takes, from a record on; or nowhere, where it takes none.
+pub enum Place {
+    Within(Condition, Record),
+    Nowhere,
+}
+
+// A split: its condition and its lots, and the record after the term that it splits on, where the apart branch resumes.
 pub struct Split {
     pub condition: Condition,
     pub a: Lot,
     pub b: Lot,
     pub after: Record,
-    pub settled: u16,
 }
 
 // What a node is.
@@ -51,20 +56,27 @@ pub enum Node {
 }
 
 // The lowest-numbered condition that has no true term and no open "apart" term. A condition is passed over exactly where the classes meet it: some "same"
-// term's lots share a class, or some "apart" term's do not (`taken-by-classes`); so the scan needs no marks. The map's array is read in place: a method that
-// hands the map back would copy it for each term. The first `settled` conditions are settled for good, and are not looked at.
-pub fn scan(sheet: &[u8], m: u16, map: Classes, settled: u16) -> Taken
-    requires { ⌜ Scannable (now sheet) m × Settled (map .lots) (now sheet) settled ⌝ }
+// term's lots share a class, or some "apart" term's do not (`taken-by-classes`). Where a "same" term's do, the condition is settled: it is met under every
+// further decision, so it is marked with the level of the path, and a condition that is marked is not read. The map's array is read in place: a method that
+// hands the map back would copy it for each term.
+pub fn scan(sheet: &[u8], m: u16, map: Classes, marks: &mut [u16], level: u16) -> Taken
+    requires { ⌜ Scannable (now sheet) m × Marked (map .lots) (now sheet) (now marks) level ⌝ }
     ensures taken { λ r. ⌜ ((ds : Decisions) → map .lots ≡ classes ds → takenAs (now (sheet .entry)) r ≡ taken ds 1 (conditions (now (sheet .entry)))) ⌝ }
     ensures within { λ r. ⌜ TakenWithin m r ⌝ }
+    ensures marked { λ r. ⌜ Marked (map .lots) (now (sheet .entry)) (now (marks .exit)) level ⌝ }
+    ensures later { λ r. ⌜ Later (now (marks .entry)) (now (marks .exit)) level ⌝ }
 {
     let lots = map.lots;
-    let mut c = settled;
+    let mut c: u16 = 0;
     'conditions: loop {
         if m <= c {
             break 'conditions Taken::Nothing;
         }
+        let place = c as usize;
         c += 1;
+        if marks[place] != 0 {
+            continue 'conditions;
+        }
         let mut at = sheet::format::head_at(sheet, Condition(c));
         'terms: loop {
             if at.0 == 0 {
@@ -75,10 +87,33 @@ pub fn scan(sheet: &[u8], m: u16, map: Classes, settled: u16) -> Taken
             let b = t.b.0 as usize;
             let shared = lots[a] == lots[b];
             if shared == (t.sign == 1) {
+                if shared {
+                    marks[place] = level;
+                }
                 continue 'conditions;
             }
             at = t.next;
         }
+    }
+}
+
+// Marks a condition as settled at a level.
+pub fn settle(marks: &mut [u16], c: Condition, level: u16)
+    requires { ⌜ (1 ≤ c .0) × (c .0 ≤ length (now marks)) ⌝ }
+    ensures { λ _. ⌜ now (marks .exit) ≡ set (now (marks .entry)) (c .0 - 1) level ⌝ }
+{
+    marks[(c.0 - 1) as usize] = level;
+}
+
+// Takes back the marks of every level above one: what those paths joined is joined no more.
+pub fn clear_above(marks: &mut [u16], level: u16)
+    ensures { λ _. ⌜ ClearedAbove (now (marks .entry)) (now (marks .exit)) level ⌝ }
+{
+    let mut i: usize = 0;
+    while i < marks.len() {
+        let mark = marks[i];
+        marks[i] = if level < mark { 0 } else { mark };
+        i += 1;
     }
 }
 
@@ -122,11 +157,10 @@ fn ground_or_split(
     count: usize,
     c: Condition,
     from: Record,
-    settled: u16,
 ) -> Node
     requires { ⌜ Scannable (now sheet) m × PairsWithin (now pairs) count × (from .0 ≤ recordCount (now sheet)) ⌝ }
-    ensures node { λ r. ⌜ ((ds : Decisions) → Represents map (now (pairs .entry)) count ds → ResumesWithin (now (sheet .entry)) (c .0) (from .0) settled ds → nodeAs r ≡ node ds (conditions (now (sheet .entry)))) ⌝ }
-    ensures leaves { λ r. ⌜ ((ds : Decisions) → Represents map (now (pairs .entry)) count ds → ResumesWithin (now (sheet .entry)) (c .0) (from .0) settled ds → Leaves (now (sheet .entry)) r ds) ⌝ }
+    ensures node { λ r. ⌜ ((ds : Decisions) → Represents map (now (pairs .entry)) count ds → ResumesWithin (now (sheet .entry)) (c .0) (from .0) ds → nodeAs r ≡ node ds (conditions (now (sheet .entry)))) ⌝ }
+    ensures leaves { λ r. ⌜ ((ds : Decisions) → Represents map (now (pairs .entry)) count ds → ResumesWithin (now (sheet .entry)) (c .0) (from .0) ds → Leaves (now (sheet .entry)) r ds) ⌝ }
 {
     let first = first_open(sheet, m, map, pairs, count, from);
     match first {
@@ -135,33 +169,50 @@ fn ground_or_split(
             a,
             b,
             after,
-            settled,
         }),
         Open::Nothing => Node::Ground(c),
     }
 }
 
-// The node of a path, whose classes and pairs set apart are given: met where the scan finds no condition to take, otherwise a ground or a split of the
-// condition taken. A visit that resumes within that condition scans nothing again.
-pub fn node_at(sheet: &[u8], m: u16, map: Classes, pairs: &[u8], count: usize, from: Resume) -> Node
-    requires { ⌜ Scannable (now sheet) m × PairsWithin (now pairs) count × StartsWithin (now sheet) (map .lots) from ⌝ }
-    ensures node { λ r. ⌜ ((ds : Decisions) → Represents map (now (pairs .entry)) count ds → Resumes (now (sheet .entry)) from ds → nodeAs r ≡ node ds (conditions (now (sheet .entry)))) ⌝ }
-    ensures leaves { λ r. ⌜ ((ds : Decisions) → Represents map (now (pairs .entry)) count ds → Resumes (now (sheet .entry)) from ds → Leaves (now (sheet .entry)) r ds) ⌝ }
+// Where the terms of a path's node are looked at: from the head of the condition that the scan takes; a visit that resumes within a condition scans nothing
+// again. The marks are written here, apart from the reading of the terms, so that the map can be read in place there.
+pub fn locate(
+    sheet: &[u8],
+    m: u16,
+    map: Classes,
+    from: Resume,
+    marks: &mut [u16],
+    level: u16,
+) -> Place
+    requires { ⌜ Scannable (now sheet) m × StartsWithin (now sheet) from × Marked (map .lots) (now sheet) (now marks) level ⌝ }
+    ensures stands { λ r. ⌜ ((ds : Decisions) → map .lots ≡ classes ds → Resumes (now (sheet .entry)) from ds → Stands (now (sheet .entry)) r ds) ⌝ }
+    ensures within { λ r. ⌜ PlaceWithin (now (sheet .entry)) r ⌝ }
+    ensures marked { λ r. ⌜ Marked (map .lots) (now (sheet .entry)) (now (marks .exit)) level ⌝ }
+    ensures later { λ r. ⌜ Later (now (marks .entry)) (now (marks .exit)) level ⌝ }
 {
     match from {
-        Resume::Within(c, after, settled) => {
-            ground_or_split(sheet, m, map, pairs, count, c, after, settled)
-        }
-        Resume::Scan(settled) => {
-            let taken = scan(sheet, m, map, settled);
+        Resume::Within(c, after) => Place::Within(c, after),
+        Resume::Scan => {
+            let taken = scan(sheet, m, map, marks, level);
             match taken {
-                Taken::Nothing => Node::Met,
+                Taken::Nothing => Place::Nowhere,
                 Taken::Lowest(c) => {
                     let head = sheet::format::head_at(sheet, c);
-                    let reach = if settled + 1 == c.0 { c.0 } else { settled };
-                    ground_or_split(sheet, m, map, pairs, count, c, head, reach)
+                    Place::Within(c, head)
                 }
             }
         }
+    }
+}
+
+// The node of a path, whose classes and pairs set apart are given: met where it takes no condition, otherwise a ground or a split of the condition taken.
+pub fn node_at(sheet: &[u8], m: u16, map: Classes, pairs: &[u8], count: usize, place: Place) -> Node
+    requires { ⌜ Scannable (now sheet) m × PairsWithin (now pairs) count × PlaceWithin (now sheet) place ⌝ }
+    ensures node { λ r. ⌜ ((ds : Decisions) → Represents map (now (pairs .entry)) count ds → Stands (now (sheet .entry)) place ds → nodeAs r ≡ node ds (conditions (now (sheet .entry)))) ⌝ }
+    ensures leaves { λ r. ⌜ ((ds : Decisions) → Represents map (now (pairs .entry)) count ds → Stands (now (sheet .entry)) place ds → Leaves (now (sheet .entry)) r ds) ⌝ }
+{
+    match place {
+        Place::Within(c, from) => ground_or_split(sheet, m, map, pairs, count, c, from),
+        Place::Nowhere => Node::Met,
     }
 }

@@ -1,17 +1,18 @@
 -- The path of a visit, as its map and its pairs represent it: what each branch of a split makes of it, and the open "same" terms that fall.
-use Prim.Native.Nat.{ℕ, _+_, _*_, _≤_, _<_}
+use Prim.Native.Nat.{ℕ, zero, suc, _+_, _*_, _-_, _≤_, _<_}
 use mathlib.Core.Bool.{Bool, cond, _||_}
 use mathlib.Core.List.{List, [], _∷_}
 use mathlib.Core.Path.{_≡_, refl, sym, ap, ap₂, _∙_}
 use native.Mathlib.Omega.{arith}
 use lib.Dec.{eqb}
-use lib.ListN.{length, getD, length-set}
-use Rattle.sheet.specs.Format.{mostLots, mostRecords}
+use lib.ListN.{length, getD, set, take, replicate, length-set, length-replicate}
+use lib.Seq.{length-take-le}
+use Rattle.sheet.specs.Format.{mostLots, mostRecords, conditionCount}
 use Rattle.sheet.specs.Checks.{Accepted}
-use Rattle.sheet.specs.Conditions.{Term, same, apart, conditions}
+use Rattle.sheet.specs.Conditions.{Term, same, apart, conditionAt, conditions}
 use Rattle.sheet.proofs.Accepted.{sound}
 use Rattle.sheet.proofs.Conditions.{terms-length}
-use Rattle.equality.specs.Node.{Decisions, classes, merged, classOf, marked, split, node}
+use Rattle.equality.specs.Node.{Decisions, classes, merged, classOf, marked, takes, taken, split, node}
 use Rattle.equality.proofs.Small.{conditions-small}
 use Rattle.equality.proofs.Least.{least}
 use Rattle.equality.proofs.Node.{taken-apart}
@@ -25,8 +26,9 @@ use Rattle.classes.proofs.Path.{pair-leaves, new-represents, join-represents, a
 use Rattle.node.specs.declared.Resume.{Resume}
 use Rattle.node.specs.declared.Resume.the-variants.{Scan, Within}
 use Rattle.node.specs.Resume.{ResumesWithin, Resumes, StartsWithin}
-use Rattle.node.proofs.Settling.{same-settled}
-use Rattle.search.specs.Visited.{Standing, Untouched, EntriesWithin}
+use Rattle.node.specs.Settled.{Marked, Later}
+use Rattle.node.proofs.Settling.{taken-number, same-marked, same-later, later-through}
+use Rattle.search.specs.Visited.{Standing, LevelWithin, Untouched, EntriesWithin}
 
 -- ---- the open "same" terms, counted by the map and the pairs: the measure of the visits
 
@@ -65,21 +67,48 @@ module _ (shut : ℕ → ℕ → Bool) (ds : Decisions) (agrees : (a b : ℕ) �
 
 -- ---- the path
 
--- Where a visit may go on is within the sheet, after conditions that the map settles.
-pub starts-within : (s : List ℕ) (cs : List ℕ) (from : Resume) (ds : Decisions) → cs ≡ classes ds → Resumes s from ds → StartsWithin s cs from
-starts-within s cs (Scan settled) ds same-classes resumes = rw same-classes resumes
-starts-within s cs (Within c r settled) ds same-classes resumes = resumes .passes .within
+-- Where a visit may go on is within the sheet.
+pub starts-within : (s : List ℕ) (from : Resume) (ds : Decisions) → Resumes s from ds → StartsWithin s from
+starts-within s Scan ds resumes = tt
+starts-within s (Within c r) ds resumes = resumes .passes .within
 
--- With no decision none is settled.
-pub start-resumes : (s : List ℕ) → Resumes s (Scan 0) []
-start-resumes s = record { within = omega arith; each = λ i low high. absurd (omega arith) }
+-- The condition of a split is one of the sheet's;
+pub split-number : (s : List ℕ) (c a b r : ℕ) (ds : Decisions) → ResumesWithin s c r (apart a b ∷ ds) → (1 ≤ c) × (c ≤ conditionCount s)
+split-number s c a b r ds w = taken-number (apart a b ∷ ds) s c (conditionAt s c) (w .condition)
 
--- The same branch of a split scans after those that its taken condition, now settled, is counted with.
-pub same-resumes : (s : List ℕ) (c a b r settled : ℕ) (ds : Decisions) → node ds (conditions s) ≡ split a b → ResumesWithin s c r settled (apart a b ∷ ds)
-    → Resumes s (Scan settled) (same a b ∷ ds)
-unfolding classes
-same-resumes s c a b r settled ds e w =
-    same-settled ds s c a b settled e (sym (taken-apart ds a b 1 (conditions s)) ∙ w .condition) (w .others)
+-- its same branch is of the next level, in which the condition is marked as settled;
+module _ (s cs marks : List ℕ) (c a b r level : ℕ) (ds : Decisions) (says : cs ≡ classes ds) (l : Marked cs s marks level)
+    (e : node ds (conditions s) ≡ split a b) (w : ResumesWithin s c r (apart a b ∷ ds)) where
+  taken-first : taken ds 1 (conditions s) ≡ takes c (conditionAt s c)
+  taken-first = sym (taken-apart ds a b 1 (conditions s)) ∙ w .condition
+
+  pub under-marked : (cs′ marks₁ : List ℕ) → cs′ ≡ merged (classOf cs a) (classOf cs b) cs → marks₁ ≡ set marks (c - 1) (level + 1) → Marked cs′ s marks₁ (level + 1)
+  under-marked cs′ marks₁ joined settled = rw settled (rw joined (rw says (same-marked ds s marks c a b level (rw says at l) e taken-first)))
+
+  -- and whatever that branch marked, the marks above the level are later ones.
+  pub under-later : (marks₁ marks′ : List ℕ) → marks₁ ≡ set marks (c - 1) (level + 1) → Later marks₁ marks′ (level + 1) → Later marks marks′ (level + 1)
+  under-later marks₁ marks′ settled later =
+      later-through marks marks₁ marks′ (level + 1) (rw settled (same-later ds s marks c a b level (rw says at l) e taken-first)) later
+
+-- With no decision no condition is marked.
+none-marked : (n m i : ℕ) → _≡_ {A = ℕ} (getD (take m (replicate n 0)) i 0) 0
+none-marked zero zero i = refl
+none-marked zero (suc m) i = refl
+none-marked (suc n) zero i = refl
+none-marked (suc n) (suc m) zero = refl
+none-marked (suc n) (suc m) (suc i) = none-marked n m i
+
+pub start-marked : (cs s : List ℕ) (n m : ℕ) → m ≤ n → conditionCount s ≤ m → Marked cs s (take m (replicate n 0)) 1
+start-marked cs s n m h e =
+    record {
+      low = omega arith;
+      sized = omega (arith, length-take-le {A = ℕ} m (replicate n 0) (simp length-replicate h), e);
+      high = λ i. omega (arith, none-marked n m i);
+      each = λ i marked. absurd (marked (none-marked n m i));
+    }
+
+pub start-level : (s : List ℕ) → Accepted s → LevelWithin s 1 []
+start-level s ok = omega (arith, opens-all-same [] (conditions s), all-same-terms (conditions s), terms-length s ok, sound s ok .header .records)
 
 -- No decision, and pairs with room for one of each term that a sheet can have.
 pub start-standing : (s : List ℕ) → Accepted s → (map : Classes) (pairs : List ℕ) → map .lots ≡ classes [] → length pairs ≡ 2 * mostRecords → Standing s map pairs 0 []
@@ -126,6 +155,16 @@ module _ {s : List ℕ} {map : Classes} {pairs : List ℕ} {count : ℕ} {ds : D
           room = omega (arith, st .room, same-falls);
           size = st .size;
         }
+
+    pub same-level : (level : ℕ) → LevelWithin s level ds → LevelWithin s (level + 1) (same a b ∷ ds)
+    same-level level h = omega (arith, h, same-falls)
+
+    pub apart-level : (level : ℕ) → LevelWithin s level ds → LevelWithin s level (apart a b ∷ ds)
+    apart-level level h = omega (arith, h, apart-falls)
+
+    -- a level has room,
+    pub level-room : (level : ℕ) → LevelWithin s level ds → level ≤ mostRecords
+    level-room level h = omega (arith, h, same-falls)
 
     -- there is room for a pair more,
     pub pair-room : 2 * count + 2 ≤ length pairs

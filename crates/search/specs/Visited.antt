@@ -38,6 +38,10 @@ pub record Standing (s : List ℕ) (map : Classes) (pairs : List ℕ) (count : �
   pub room : 2 * (count + allOpens ds (conditions s)) ≤ length pairs
   pub size : length pairs ≤ 2 * mostRecords
 
+-- The level of the path leaves room for one more for each open "same" term.
+abbrev pub LevelWithin : List ℕ → ℕ → Decisions → Type 0
+LevelWithin s level ds = level + allOpens ds (conditions s) ≤ mostRecords + 1
+
 -- The entry of each lot is a lot.
 abbrev pub EntriesWithin : List ℕ → Type 0
 EntriesWithin lots = (lot : ℕ) → lot ≤ mostLots → classOf lots lot ≤ mostLots

@@ -8,13 +8,14 @@ ghost use Rattle.sheet.specs.Conditions.{conditions};
 ghost use Rattle.equality.specs.Node.{Decisions, split, node};
 ghost use Rattle.equality.specs.Search.{Tree, searchTree};
 ghost use Rattle.equality.proofs.Visits.{Visits};
+ghost use Rattle.node.specs.Settled.{Marked, Later};
 ghost use Rattle.node.specs.Scan.{Scannable};
 ghost use Rattle.node.specs.Resume.{Resumes, SplitLeaves};
 ghost use Rattle.store.specs.Records.{capacity};
 ghost use Rattle.store.specs.Outcome.{resultOf, searchOutcome};
 ghost use Rattle.search.specs.Answers.{searchAnswer};
 ghost use Rattle.search.specs.Promises.{searchCase, RefusedExactly, FullExactly, FullPlace, MetExactly, MetGrouping, CannotExactly, CannotRefutes, CountBounded};
-ghost use Rattle.search.specs.Visited.{Searchable, Standing, EntriesWithin, Untouched, Explored, EndsAs};
+ghost use Rattle.search.specs.Visited.{Searchable, Standing, LevelWithin, EntriesWithin, Untouched, Explored, EndsAs};
 use classes::Classes;
 use node::Node;
 use node::Resume;
@@ -27,8 +28,14 @@ use store::NodeRecord;
 // The bytes of the pairs that a path can set apart: two for each term that a sheet can have.
 const PAIRS_LENGTH: usize = 2048;
 
-// With no decision no condition is known to be settled.
-const NONE_SETTLED: u16 = 0;
+// The marks of the conditions that are known to be settled: one for each condition that a sheet can have.
+const MARKS_LENGTH: usize = 256;
+
+// So many marks are taken back at once: they are lent in whole groups of this many.
+const MARKS_TOGETHER: usize = 16;
+
+// The level of the path with no decision. Each same branch is one level further, and 0 stands for no mark.
+const FIRST_LEVEL: u16 = 1;
 
 // How a visit ended: met, or nothing met under the node, with the records written so far; or the store is full.
 pub enum Visited {
@@ -59,7 +66,7 @@ fn write_grouping(grouping: &mut [u8], map: Classes)
 }
 
 // The node of a path, and all under it: its record is written, and a split's branches are visited. `before` records have been written already; `count` is how
-// many pairs the path sets apart.
+// many pairs the path sets apart. The marks are those of conditions that the path settles, of its levels up to this one.
 fn visit(
     sheet: &[u8],
     m: u16,
@@ -70,18 +77,22 @@ fn visit(
     pairs: &mut [u8],
     grouping: &mut [u8],
     store: &mut [u8],
+    marks: &mut [u16],
+    level: u16,
 ) -> Visited
-    requires { ⌜ Searchable (now sheet) m (now grouping)
-        × ((ds : Decisions) × (Standing (now sheet) map (now pairs) count ds × Resumes (now sheet) from ds)) ⌝ }
+    requires { ⌜ Searchable (now sheet) m (now grouping) × Marked (map .lots) (now sheet) (now marks) level
+        × ((ds : Decisions) × (Standing (now sheet) map (now pairs) count ds × Resumes (now sheet) from ds × LevelWithin (now sheet) level ds)) ⌝ }
     ensures visited { λ r. ⌜ ((ds : Decisions) (t : Tree) → Standing (now (sheet .entry)) map (now (pairs .entry)) count ds → Resumes (now (sheet .entry)) from ds
         → Visits (conditions (now (sheet .entry))) ds t
         → Explored before (now (store .entry)) (now (store .exit)) (now (grouping .entry)) (now (grouping .exit)) r t) ⌝ }
     ensures pairs { λ r. ⌜ Untouched (now (pairs .entry)) (now (pairs .exit)) count ⌝ }
+    ensures marks { λ r. ⌜ Later (now (marks .entry)) (now (marks .exit)) level ⌝ }
 {
     if store::capacity_of(store) <= (before as usize) {
         return Visited::Full;
     }
-    let node = node::node_at(sheet, m, map, pairs, count, from);
+    let place = node::locate(sheet, m, map, from, marks, level);
+    let node = node::node_at(sheet, m, map, pairs, count, place);
     match node {
         Node::Met => {
             store::write(store, NodeNumber(before + 1), NodeRecord::Met);
@@ -92,12 +103,27 @@ fn visit(
             store::write(store, NodeNumber(before + 1), NodeRecord::Ground(c));
             Visited::Cannot(before + 1)
         }
-        Node::Split(on) => branches(sheet, m, map, count, on, before, pairs, grouping, store),
+        Node::Split(on) => {
+            branches(
+                sheet,
+                m,
+                map,
+                count,
+                on,
+                before,
+                pairs,
+                grouping,
+                store,
+                marks,
+                level,
+            )
+        }
     }
 }
 
-// A split on two lots: its record, all under its same branch, which scans the conditions after the settled ones, and, if nothing was met there, all under its
-// apart branch, which goes on in the same condition after the term of the split. The store is seen to have room before the split's next is set, since that has two bytes.
+// A split on two lots: its record, all under its same branch, in which its condition is settled, and, if nothing was met there, all under its apart branch,
+// which goes on in the same condition after the term of the split, with the marks as they were before. The store is seen to have room before the split's next
+// is set, since that has two bytes.
 fn branches(
     sheet: &[u8],
     m: u16,
@@ -108,31 +134,38 @@ fn branches(
     pairs: &mut [u8],
     grouping: &mut [u8],
     store: &mut [u8],
+    marks: &mut [u16],
+    level: u16,
 ) -> Visited
-    requires { ⌜ Searchable (now sheet) m (now grouping) × (before < capacity (now store))
+    requires { ⌜ Searchable (now sheet) m (now grouping) × (before < capacity (now store)) × Marked (map .lots) (now sheet) (now marks) level
         × ((ds : Decisions) × (Standing (now sheet) map (now pairs) count ds × (node ds (conditions (now sheet)) ≡ split (on .a .0) (on .b .0))
-        × SplitLeaves (now sheet) on ds)) ⌝ }
+        × SplitLeaves (now sheet) on ds × LevelWithin (now sheet) level ds)) ⌝ }
     ensures visited { λ r. ⌜ ((ds : Decisions) (t : Tree) → Standing (now (sheet .entry)) map (now (pairs .entry)) count ds
         → node ds (conditions (now (sheet .entry))) ≡ split (on .a .0) (on .b .0) → SplitLeaves (now (sheet .entry)) on ds
         → Visits (conditions (now (sheet .entry))) ds t
         → Explored before (now (store .entry)) (now (store .exit)) (now (grouping .entry)) (now (grouping .exit)) r t) ⌝ }
     ensures pairs { λ r. ⌜ Untouched (now (pairs .entry)) (now (pairs .exit)) count ⌝ }
+    ensures marks { λ r. ⌜ Later (now (marks .entry)) (now (marks .exit)) level ⌝ }
 {
     let here = NodeNumber(before + 1);
     let a = on.a;
     let b = on.b;
     store::write(store, here, NodeRecord::Split(a, b, NodeNumber(0)));
     let joined = map.join(a, b);
+    let c = on.condition;
+    node::settle(marks, c, level + 1);
     let under_same = visit(
         sheet,
         m,
         joined,
         count,
-        Resume::Scan(on.settled),
+        Resume::Scan,
         before + 1,
         pairs,
         grouping,
         store,
+        marks,
+        level + 1,
     );
     match under_same {
         Visited::Met(n) => Visited::Met(n),
@@ -143,18 +176,21 @@ fn branches(
             }
             store::set_next(store, here, NodeNumber(n + 1));
             classes::set_apart(pairs, count, a, b);
-            let c = on.condition;
+            node::clear_above(marks, level);
             let after = on.after;
+            let from = Resume::Within(c, after);
             visit(
                 sheet,
                 m,
                 map,
                 count + 1,
-                Resume::Within(c, after, on.settled),
+                from,
                 n,
                 pairs,
                 grouping,
                 store,
+                marks,
+                level,
             )
         }
     }
@@ -166,17 +202,21 @@ fn start(sheet: &[u8], m: u16, grouping: &mut [u8], store: &mut [u8]) -> Visited
     ensures { λ r. ⌜ Explored 0 (now (store .entry)) (now (store .exit)) (now (grouping .entry)) (now (grouping .exit)) r (searchTree (conditions (now (sheet .entry)))) ⌝ }
 {
     let mut pairs = [0u8; PAIRS_LENGTH];
+    let mut marks = [0u16; MARKS_LENGTH];
+    let room = MARKS_TOGETHER * ((m as usize + (MARKS_TOGETHER - 1)) / MARKS_TOGETHER);
     let map = Classes::new();
     visit(
         sheet,
         m,
         map,
         0,
-        Resume::Scan(NONE_SETTLED),
+        Resume::Scan,
         0,
         &mut pairs,
         grouping,
         store,
+        &mut marks[..room],
+        FIRST_LEVEL,
     )
 }
 

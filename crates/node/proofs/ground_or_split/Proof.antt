@@ -23,12 +23,11 @@ returns c =
     let s = start .args .sheet .now in
     let d = start .args .c .0 in
     let from = start .args .from .0 in
-    let n = start .args .settled in
     let first = c .before .first .given .1 in (
-      (λ ds rep w. ap (openAs d) (sym first) ∙ found .first-open .ensures .0 ds rep (rest-unsettled s d from n ds w) d ∙ sym (rest-decides s d from n ds w)),
+      (λ ds rep w. ap (openAs d) (sym first) ∙ found .first-open .ensures .0 ds rep (rest-unsettled s d from ds w) d ∙ sym (rest-decides s d from ds w)),
       (λ ds rep w.
-          apart-resumes s d from n ds w _ _ _
-          (subst (λ (o : Open). OpenLeaves s from o ds) first (found .first-open .ensures .1 ds rep (rest-unsettled s d from n ds w)))),
+          apart-resumes s d from ds w _ _ _
+          (subst (λ (o : Open). OpenLeaves s from o ds) first (found .first-open .ensures .1 ds rep (rest-unsettled s d from ds w)))),
     )
 
 returns-2 : tie.Need-returns-2
@@ -37,9 +36,8 @@ returns-2 c =
     let start = found .before .before .before in
     let s = start .args .sheet .now in
     let d = start .args .c .0 in
-    let from = start .args .from .0 in
-    let n = start .args .settled in (
-      (λ ds rep w. ap (openAs d) (sym (c .enum-told .given .1)) ∙ found .first-open .ensures .0 ds rep (rest-unsettled s d from n ds w) d ∙ sym (rest-decides s d from n ds w)),
+    let from = start .args .from .0 in (
+      (λ ds rep w. ap (openAs d) (sym (c .enum-told .given .1)) ∙ found .first-open .ensures .0 ds rep (rest-unsettled s d from ds w) d ∙ sym (rest-decides s d from ds w)),
       (λ ds rep w. tt),
     )
 
