@@ -103,21 +103,19 @@ fn visit(
             store::write(store, NodeNumber(before + 1), NodeRecord::Ground(c));
             Visited::Cannot(before + 1)
         }
-        Node::Split(on) => {
-            branches(
-                sheet,
-                m,
-                map,
-                count,
-                on,
-                before,
-                pairs,
-                grouping,
-                store,
-                marks,
-                level,
-            )
-        }
+        Node::Split(on) => branches(
+            sheet,
+            m,
+            map,
+            count,
+            on,
+            before,
+            pairs,
+            grouping,
+            store,
+            marks,
+            level,
+        ),
     }
 }
 
