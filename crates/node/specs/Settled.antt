@@ -20,7 +20,7 @@ sharing cs (apart a b) = false
 abbrev pub settledBy : List ℕ → List Term → Bool
 settledBy cs ts = someTerm (sharing cs) ts
 
--- The marks of a path, one a condition, and maybe some after them that stay 0: 0, or the level at which the condition was seen to be settled, which is none above this one.
+-- The marks of a path, one a condition and maybe more after them: 0, or the level at which the condition was seen to be settled, which is none above this one.
 pub record Marked (cs s marks : List ℕ) (level : ℕ) : Type 0 where
   pub low : 1 ≤ level
   pub sized : conditionCount s ≤ length marks
