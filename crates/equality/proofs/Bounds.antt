@@ -7,7 +7,7 @@ use lib.ListN.{length, length-append}
 use Rattle.sheet.specs.Conditions.{Term, same, apart}
 use Rattle.sheet.proofs.Ranges.{All}
 use Rattle.equality.specs.Node.{Decisions}
-use Rattle.equality.specs.Search.{Tree, depth, nodeCount, sameTerms, allSameTerms, searchTree}
+use Rattle.equality.specs.Search.{Tree, depth, nodeCount, sameTerms, nodeRule, allSameTerms, searchTree}
 use Rattle.equality.proofs.Small.{Small}
 use Rattle.equality.proofs.Rule.{SplitAt, split-at}
 use Rattle.equality.proofs.Opens.{allOpens, opens-all-same, pair-small, same-fewer, apart-fewer}
@@ -28,7 +28,7 @@ all-same-terms (ts ∷ tss) = omega (arith, length-append ts (flatten tss), same
 module _ (tss : List (List Term)) (smalls : All (All Small) tss) where
   -- ---- depth
 
-  pub depth-opens : {ds : Decisions} {t : Tree} → Visits tss ds t → All Small ds → depth t ≤ allOpens ds tss
+  pub depth-opens : {ds : Decisions} {t : Tree} → Visits (nodeRule tss) ds t → All Small ds → depth t ≤ allOpens ds tss
   unfolding depth
   depth-opens (visits-met e) small = omega arith
   depth-opens (visits-ground e) small = omega arith
@@ -49,7 +49,7 @@ module _ (tss : List (List Term)) (smalls : All (All Small) tss) where
 
   module _ (φ : Decisions → ℕ) (positive : (ds : Decisions) → 1 ≤ φ ds)
       (shared : (ds : Decisions) → All Small ds → (a b : ℕ) → SplitAt ds tss a b → φ (same a b ∷ ds) + φ (apart a b ∷ ds) ≤ φ ds) where
-    pub count-under : {ds : Decisions} {t : Tree} → Visits tss ds t → All Small ds → suc (nodeCount t) ≤ φ ds + φ ds
+    pub count-under : {ds : Decisions} {t : Tree} → Visits (nodeRule tss) ds t → All Small ds → suc (nodeCount t) ≤ φ ds + φ ds
     unfolding nodeCount
     count-under {ds} (visits-met e) small = omega (arith, positive ds)
     count-under {ds} (visits-ground e) small = omega (arith, positive ds)

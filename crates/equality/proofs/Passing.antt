@@ -1,4 +1,5 @@
--- A loop over the terms of a chain that leaves at the first term of which a test is true: of every term that it has passed the test is false.
+-- A loop over the terms of a chain that leaves at the first term of which a test is true: of every term that it has passed the test is false. The laws speak
+-- of terms and not of a condition, since a loop may begin in the middle of a chain, and what is left of one is no condition.
 use Prim.Native.Nat.{ℕ, _≤_}
 use mathlib.Core.Bool.{Bool, true, false}
 use mathlib.Core.List.{List, [], _∷_, _++_, append-nil, append-assoc}
@@ -9,8 +10,8 @@ use Rattle.sheet.specs.Conditions.{Term, termAt, termsFrom}
 use Rattle.sheet.proofs.Ranges.{All}
 use Rattle.sheet.proofs.Accepted.{sound}
 use Rattle.sheet.proofs.ChainEnds.{terms-end, terms-step}
-use Rattle.equality.specs.Meaning.{someTerm}
-use Rattle.equality.proofs.Some.{some-here, some-false, some-past}
+use Rattle.equality.specs.Meaning.{anyTerm}
+use Rattle.equality.proofs.Some.{any-here, any-false, any-past}
 
 -- Of the chain from `head` on, the test is false of the terms before record `at`.
 pub record Passing (q : Term → Bool) (s : List ℕ) (head at : ℕ) : Type 0 where
@@ -31,8 +32,8 @@ module _ (q : Term → Bool) (s : List ℕ) (ok : Accepted s) (head at : ℕ) (l
   stepped h = l .place ∙ ap (λ (ts : List Term). l .passed ++ ts) (terms-step s ok at h (l .within))
 
   -- One that is true is found;
-  pub found : 1 ≤ at → q (termAt s at) ≡ true → someTerm q (termsFrom s head) ≡ true
-  found h e = rw (stepped h) (some-here q (l .passed) (termAt s at) (termsFrom s (nextAt s at)) e)
+  pub found : 1 ≤ at → q (termAt s at) ≡ true → anyTerm q (termsFrom s head) ≡ true
+  found h e = rw (stepped h) (any-here q (l .passed) (termAt s at) (termsFrom s (nextAt s at)) e)
 
   -- another is passed;
   pub passing-next : 1 ≤ at → q (termAt s at) ≡ false → Passing q s head (nextAt s at)
@@ -45,12 +46,12 @@ module _ (q : Term → Bool) (s : List ℕ) (ok : Accepted s) (head at : ℕ) (l
       }
 
   -- and where the chain ends, there is none.
-  pub ended : at ≡ 0 → someTerm q (termsFrom s head) ≡ false
+  pub ended : at ≡ 0 → anyTerm q (termsFrom s head) ≡ false
   ended e =
       let whole : termsFrom s head ≡ l .passed =
       l .place ∙ ap (λ (r : ℕ). l .passed ++ termsFrom s r) e ∙ ap (λ (ts : List Term). l .passed ++ ts) (terms-end s) ∙ append-nil (l .passed) in
-      rw whole (some-false q (l .passed) (l .falses))
+      rw whole (any-false q (l .passed) (l .falses))
 
   -- What is left decides.
-  pub left-decides : someTerm q (termsFrom s head) ≡ someTerm q (termsFrom s at)
-  left-decides = rw (l .place) (some-past q (l .passed) (termsFrom s at) (l .falses))
+  pub left-decides : anyTerm q (termsFrom s head) ≡ anyTerm q (termsFrom s at)
+  left-decides = rw (l .place) (any-past q (l .passed) (termsFrom s at) (l .falses))

@@ -10,7 +10,7 @@ use Rattle.sheet.specs.Conditions.{Term}
 use Rattle.sheet.proofs.Ranges.{All}
 use Rattle.equality.specs.Meaning.{Holds, MeetsCondition, MeetsAll, meetsAll}
 use Rattle.equality.specs.Node.{Decisions, Respects, smallestLot, isFalse, value, trueOrOpenApart, passedOver, met, node}
-use Rattle.equality.specs.Search.{Tree, isMet, metDecisions, searchTree}
+use Rattle.equality.specs.Search.{Tree, isMet, metDecisions, nodeRule, searchTree}
 use Rattle.equality.proofs.Meaning.{all-decides}
 use Rattle.equality.proofs.Some.{none-some}
 use Rattle.equality.proofs.Small.{Small}
@@ -18,7 +18,7 @@ use Rattle.equality.proofs.Classes.{Says, value-says}
 use Rattle.equality.proofs.Node.{passed-by-classes}
 use Rattle.equality.proofs.Rule.{GroundAt, met-passed, ground-at, ground-false, split-at}
 use Rattle.equality.proofs.Opens.{all-at, pair-small}
-use Rattle.equality.proofs.Visits.{Visits, visits-met, visits-ground, visits-one, visits-two, search-visits}
+use Rattle.equality.proofs.Visits.{Visits, visits-met, visits-ground, visits-one, visits-two, met-rule, search-visits}
 
 -- ---- met
 
@@ -27,17 +27,9 @@ unfolding meetsAll
 passed-meets ds [] all = refl
 passed-meets ds (ts ∷ tss) all = rw (sym (passed-by-classes ds ts) ∙ all .0) (passed-meets ds tss (all .1))
 
--- The decisions of a tree's met node are those of a met node,
-pub met-node : {tss : List (List Term)} {ds : Decisions} {t : Tree} → Visits tss ds t → isMet t ≡ true → node (metDecisions t) tss ≡ met
-unfolding isMet metDecisions
-met-node (visits-met e) m = e
-met-node (visits-ground e) m = absurd (false≢true m)
-met-node (visits-one e v q) m = met-node v m
-met-node (visits-two e v q w) m = met-node w m
-
--- and their classes meet the conditions.
-pub met-meets : {tss : List (List Term)} {ds : Decisions} {t : Tree} → Visits tss ds t → isMet t ≡ true → meetsAll (smallestLot (metDecisions t)) tss ≡ true
-met-meets {tss} {t = t} v m = passed-meets (metDecisions t) tss (met-passed (metDecisions t) tss (met-node v m))
+-- The classes of a tree's met node meet the conditions.
+pub met-meets : (tss : List (List Term)) {ds : Decisions} {t : Tree} → Visits (nodeRule tss) ds t → isMet t ≡ true → meetsAll (smallestLot (metDecisions t)) tss ≡ true
+met-meets tss {t = t} v m = passed-meets (metDecisions t) tss (met-passed (metDecisions t) tss (met-rule v m))
 
 -- ---- cannot
 
@@ -61,7 +53,7 @@ module _ {A : Type 0} (decide : (x y : A) → Dec (x ≡ y)) (f : ℕ → A) (ts
           (says, falses ts (small′ .1) (all .1))
 
   -- Theorem 3, under any decisions.
-  pub cannot-under : {ds : Decisions} {t : Tree} → Visits tss ds t → isMet t ≡ false → All Small ds → Respects f ds → ¬ MeetsAll f tss
+  pub cannot-under : {ds : Decisions} {t : Tree} → Visits (nodeRule tss) ds t → isMet t ≡ false → All Small ds → Respects f ds → ¬ MeetsAll f tss
   unfolding isMet Respects
   cannot-under (visits-met e) m small respects meets′ = false≢true (sym m)
   cannot-under {ds} (visits-ground {c = c} e) m small respects meets′ = grounded (ground-at ds tss c e)
@@ -90,7 +82,7 @@ module _ {A : Type 0} (decide : (x y : A) → Dec (x ≡ y)) (f : ℕ → A) (ts
 module _ (tss : List (List Term)) (smalls : All (All Small) tss) where
   -- Theorem 2: where the search meets a node, the classes there meet the conditions.
   pub search-met : isMet (searchTree tss) ≡ true → meetsAll (smallestLot (metDecisions (searchTree tss))) tss ≡ true
-  search-met m = met-meets (search-visits tss smalls) m
+  search-met m = met-meets tss (search-visits tss smalls) m
 
   -- Theorem 3: where it meets none, no assignment meets them, with values of any type whose equality is decidable.
   pub search-cannot : isMet (searchTree tss) ≡ false → {A : Type 0} → ((x y : A) → Dec (x ≡ y)) → (f : ℕ → A) → ¬ MeetsAll f tss

@@ -1,4 +1,4 @@
--- Laws of "some term of a condition is such and such" that hold whatever a condition with no term counts for.
+-- Laws of "some term of a condition is such and such". All but one, `some-any`, hold whatever a condition with no term counts for.
 use mathlib.Core.Bool.{Bool, true, false, _||_, or-true, false≢true}
 use mathlib.Core.List.{List, [], _∷_, _++_}
 use mathlib.Core.Logic.{⊎-elim}
@@ -17,33 +17,29 @@ unfolding AnyTerm
 none-any P [] none = λ h. h
 none-any P (t ∷ ts) none = ⊎-elim (none .0) (none-any P ts (none .1))
 
-any-false : (q : Term → Bool) (ts : List Term) → All (λ t. q t ≡ false) ts → anyTerm q ts ≡ false
+-- ---- some of these terms: what is left of a chain, or any list of terms
+
+pub any-false : (q : Term → Bool) (ts : List Term) → All (λ t. q t ≡ false) ts → anyTerm q ts ≡ false
 unfolding anyTerm
 any-false q [] none = refl
 any-false q (t ∷ ts) none = rw (none .0) (any-false q ts (none .1))
 
--- Where no term is such, none of the condition is: a condition with no term has none.
-pub some-false : (q : Term → Bool) (ts : List Term) → All (λ t. q t ≡ false) ts → someTerm q ts ≡ false
-unfolding someTerm
-some-false q [] none = refl
-some-false q (t ∷ ts) none = rw (none .0) (any-false q ts (none .1))
-
--- Past terms that are not such, those that follow decide, and where none follows there is none.
-any-past : (q : Term → Bool) (before after : List Term) → All (λ t. q t ≡ false) before → anyTerm q (before ++ after) ≡ anyTerm q after
+-- Past terms that are not such, those that follow decide.
+pub any-past : (q : Term → Bool) (before after : List Term) → All (λ t. q t ≡ false) before → anyTerm q (before ++ after) ≡ anyTerm q after
 unfolding anyTerm
 any-past q [] after none = refl
 any-past q (t ∷ before) after none = rw (none .0) (any-past q before after (none .1))
 
-any-some : (q : Term → Bool) (ts : List Term) → anyTerm q ts ≡ someTerm q ts
-unfolding anyTerm someTerm
-any-some q [] = refl
-any-some q (t ∷ ts) = refl
+-- ---- a whole condition
 
-pub some-past : (q : Term → Bool) (before after : List Term) → All (λ t. q t ≡ false) before → someTerm q (before ++ after) ≡ someTerm q after
-some-past q before after none = sym (any-some q (before ++ after)) ∙ any-past q before after none ∙ any-some q after
+-- Some term of a condition is such where some of its terms is. This law alone says what a condition with no term counts for.
+pub some-any : (q : Term → Bool) (ts : List Term) → someTerm q ts ≡ anyTerm q ts
+unfolding anyTerm someTerm
+some-any q [] = refl
+some-any q (t ∷ ts) = refl
 
 module _ (p : Term → Bool) where
-  any-none : (ts : List Term) → anyTerm p ts ≡ false → All (λ t. p t ≡ false) ts
+  pub any-none : (ts : List Term) → anyTerm p ts ≡ false → All (λ t. p t ≡ false) ts
   unfolding anyTerm
   any-none [] e = tt
   any-none (t ∷ ts) e = let both = or-false (p t) (anyTerm p ts) e in (both .0, any-none ts (both .1))
@@ -54,7 +50,7 @@ module _ (p : Term → Bool) where
   some-none [] e = tt
   some-none (t ∷ ts) e = let both = or-false (p t) (anyTerm p ts) e in (both .0, any-none ts (both .1))
 
-  any-here : (before : List Term) (t : Term) (after : List Term) → p t ≡ true → anyTerm p (before ++ t ∷ after) ≡ true
+  pub any-here : (before : List Term) (t : Term) (after : List Term) → p t ≡ true → anyTerm p (before ++ t ∷ after) ≡ true
   unfolding anyTerm
   any-here [] t after e = rw e
   any-here (u ∷ before) t after e = rw (any-here before t after e) (or-true (p u))
@@ -66,7 +62,7 @@ module _ (p : Term → Bool) where
   some-here (u ∷ before) t after e = rw (any-here before t after e) (or-true (p u))
 
   -- Two tests that agree at each term of a condition agree on the condition;
-  any-agree : (q : Term → Bool) (ts : List Term) → All (λ t. p t ≡ q t) ts → anyTerm p ts ≡ anyTerm q ts
+  pub any-agree : (q : Term → Bool) (ts : List Term) → All (λ t. p t ≡ q t) ts → anyTerm p ts ≡ anyTerm q ts
   unfolding anyTerm
   any-agree q [] each = refl
   any-agree q (t ∷ ts) each = ap₂ _||_ (each .0) (any-agree q ts (each .1))

@@ -37,9 +37,13 @@ visitNode visitBranch ds (split a b) =
 
 -- The visit of the node of these decisions. "No path has more splits than the sheet has "same" terms.", so any `fuel` above the "same"
 -- terms gives the same tree, and fuel never decides.
-unfoldable pub visit : ℕ → List (List Term) → Decisions → Tree
-visit zero tss ds = groundLeaf 0
-visit (suc fuel) tss ds = visitNode (visit fuel tss) ds (node ds tss)
+unfoldable pub visit : (Decisions → Node) → ℕ → Decisions → Tree
+visit rule zero ds = groundLeaf 0
+visit rule (suc fuel) ds = visitNode (visit rule fuel) ds (rule ds)
+
+-- The rule without a limit.
+abbrev pub nodeRule : List (List Term) → Decisions → Node
+nodeRule tss ds = node ds tss
 
 -- The "same" terms of a condition, and of all.
 unfoldable pub sameTerms : List Term → ℕ
@@ -53,7 +57,7 @@ allSameTerms (ts ∷ tss) = sameTerms ts + allSameTerms tss
 
 -- "The search starts with no decisions".
 unfoldable pub searchTree : List (List Term) → Tree
-searchTree tss = visit (suc (allSameTerms tss)) tss []
+searchTree tss = visit (nodeRule tss) (suc (allSameTerms tss)) []
 
 -- How many nodes are visited.
 unfoldable pub nodeCount : Tree → ℕ

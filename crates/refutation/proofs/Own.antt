@@ -19,7 +19,7 @@ use Rattle.sheet.proofs.Ranges.{All}
 use Rattle.sheet.proofs.Accepted.{InLots}
 use Rattle.sheet.proofs.Conditions.{TermIn, conditions-length, conditions-in}
 use Rattle.equality.specs.Node.{Decisions, value, trueOrOpenApart}
-use Rattle.equality.specs.Search.{Tree, isMet, nodeCount, depth, searchTree}
+use Rattle.equality.specs.Search.{nodeRule, Tree, isMet, nodeCount, depth, searchTree}
 use Rattle.equality.proofs.Some.{none-too}
 use Rattle.equality.proofs.Small.{Small, all-map, conditions-small}
 use Rattle.equality.proofs.Rule.{TakenAt, GroundAt, SplitAt, ground-at, ground-false, split-at}
@@ -66,7 +66,7 @@ module _ (s : List ℕ) (ok : Accepted s) where
 
   -- ---- a whole tree does to the walk what a ground does
 
-  own-walk : {ds : Decisions} {t : Tree} → Visits (conditions s) ds t → isMet t ≡ false → All Small ds
+  own-walk : {ds : Decisions} {t : Tree} → Visits (nodeRule (conditions s)) ds t → isMet t ≡ false → All Small ds
       → (above : List Split) → decisionsOf above ≡ ds → length above + depth t ≤ mostSplits
       → (at : ℕ) (rest : List NodeRecord)
       → walkFrom s (records at t ++ rest) at above ≡ afterGround (walkFrom s rest) rest (at + nodeCount t) (nearest above)

@@ -7,7 +7,7 @@ use native.Mathlib.Omega.{arith}
 use lib.Seq.{sets}
 use Rattle.sheet.specs.Bytes.{twoBytes}
 use Rattle.sheet.specs.Conditions.{Term, same, apart}
-use Rattle.equality.specs.Node.{Decisions}
+use Rattle.equality.specs.Node.{Decisions, Node}
 use Rattle.equality.specs.Search.{Tree, oneBranch, twoBranches, nodeCount}
 use Rattle.equality.proofs.Visits.{Visits, SplitTree, one, two}
 use Rattle.store.specs.Records.{splitRecord, recordLength, encode, capacity}
@@ -17,17 +17,17 @@ use Rattle.search.specs.Visited.{Explored}
 use Rattle.search.proofs.Exploring.{same-met, same-full, Turned, same-cannot, apart-full, apart-explored}
 
 -- The split's record is written (store₁), and then the same branch is visited, whose answer is r (store₂, grouping₂). v is what the rule visits.
-module _ {tss : List (List Term)} {ds : Decisions} {a b : ℕ} {tree : Tree} (v : SplitTree tss ds a b tree)
+module _ {rule : Decisions → Node} {ds : Decisions} {a b : ℕ} {tree : Tree} (v : SplitTree rule ds a b tree)
     (before : ℕ) (store store₁ store₂ grouping grouping₂ : List ℕ) (written : store₁ ≡ sets store (recordLength * before) (encode (splitRecord a b 0)))
-    (r : Visited) (told : (t : Tree) → Visits tss (same a b ∷ ds) t → Explored (before + 1) store₁ store₂ grouping grouping₂ r t) where
+    (r : Visited) (told : (t : Tree) → Visits rule (same a b ∷ ds) t → Explored (before + 1) store₁ store₂ grouping grouping₂ r t) where
   -- It met something;
   pub split-met : (n : ℕ) → r ≡ Met n → Explored before store store₂ grouping grouping₂ (Met n) tree
   split-met n q = go v
     where
-      met : (t : Tree) → Visits tss (same a b ∷ ds) t → Explored (before + 1) store₁ store₂ grouping grouping₂ (Met n) t
+      met : (t : Tree) → Visits rule (same a b ∷ ds) t → Explored (before + 1) store₁ store₂ grouping grouping₂ (Met n) t
       met t w = rw q at (told t w)
 
-      go : {u : Tree} → SplitTree tss ds a b u → Explored before store store₂ grouping grouping₂ (Met n) u
+      go : {u : Tree} → SplitTree rule ds a b u → Explored before store store₂ grouping grouping₂ (Met n) u
       go (one {t} w m) = same-met before store store₁ store₂ grouping grouping₂ a b t written n (met t w) .1
       go (two {t} {u} w m x) =
           absurd (false≢true (sym m ∙ same-met before store store₁ store₂ grouping grouping₂ a b t written n (met t w) .0))
@@ -37,32 +37,32 @@ module _ {tss : List (List Term)} {ds : Decisions} {a b : ℕ} {tree : Tree} (v 
   unfolding nodeCount
   split-full q = go v
     where
-      full : (t : Tree) → Visits tss (same a b ∷ ds) t → Explored (before + 1) store₁ store₂ grouping grouping₂ Full t
+      full : (t : Tree) → Visits rule (same a b ∷ ds) t → Explored (before + 1) store₁ store₂ grouping grouping₂ Full t
       full t w = rw q at (told t w)
 
-      go : {u : Tree} → SplitTree tss ds a b u → Explored before store store₂ grouping grouping₂ Full u
+      go : {u : Tree} → SplitTree rule ds a b u → Explored before store store₂ grouping grouping₂ Full u
       go (one {t} w m) = same-full before store store₁ store₂ grouping grouping₂ a b t written (full t w) (oneBranch a b t) (omega arith)
       go (two {t} {u} w m x) = same-full before store store₁ store₂ grouping grouping₂ a b t written (full t w) (twoBranches a b t u) (omega arith)
 
   module _ (n : ℕ) (q : r ≡ Cannot n) where
-    turned : (t : Tree) → Visits tss (same a b ∷ ds) t → Turned before store store₁ store₂ grouping grouping₂ a b t written n
+    turned : (t : Tree) → Visits rule (same a b ∷ ds) t → Turned before store store₁ store₂ grouping grouping₂ a b t written n
     turned t w = same-cannot before store store₁ store₂ grouping grouping₂ a b t written n (rw q at (told t w))
 
     -- it met nothing, and there is no room for the apart branch;
     pub split-over : capacity store₂ ≤ n → Explored before store store₂ grouping grouping₂ Full tree
     split-over h = go v
       where
-        go : {u : Tree} → SplitTree tss ds a b u → Explored before store store₂ grouping grouping₂ Full u
+        go : {u : Tree} → SplitTree rule ds a b u → Explored before store store₂ grouping grouping₂ Full u
         go (one {t} w m) = absurd (false≢true (sym (turned t w .unmet) ∙ m))
         go (two {t} {u} w m x) = apart-full before store store₁ store₂ grouping grouping₂ a b t written n (turned t w) u h
 
     -- or it met nothing, and the apart branch is visited.
     pub split-apart : (store₃ store₄ grouping₄ : List ℕ) (r₄ : Visited) → store₃ ≡ sets store₂ (recordLength * before + 6) (twoBytes (n + 1))
-        → ((u : Tree) → Visits tss (apart a b ∷ ds) u → Explored n store₃ store₄ grouping₂ grouping₄ r₄ u)
+        → ((u : Tree) → Visits rule (apart a b ∷ ds) u → Explored n store₃ store₄ grouping₂ grouping₄ r₄ u)
         → Explored before store store₄ grouping grouping₄ r₄ tree
     split-apart store₃ store₄ grouping₄ r₄ next told₄ = go v
       where
-        go : {u : Tree} → SplitTree tss ds a b u → Explored before store store₄ grouping grouping₄ r₄ u
+        go : {u : Tree} → SplitTree rule ds a b u → Explored before store store₄ grouping grouping₄ r₄ u
         go (one {t} w m) = absurd (false≢true (sym (turned t w .unmet) ∙ m))
         go (two {t} {u} w m x) =
             apart-explored before store store₁ store₂ grouping grouping₂ a b t written n (turned t w) u store₃ store₄ grouping₄ r₄ next (told₄ u x)

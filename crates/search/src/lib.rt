@@ -6,7 +6,7 @@ ghost use Rattle.sheet.specs.declared.Verdict.the-variants.{Passes};
 ghost use Rattle.sheet.specs.Format.{mostLots, lotCount};
 ghost use Rattle.sheet.specs.Conditions.{conditions};
 ghost use Rattle.equality.specs.Node.{Decisions, split, node};
-ghost use Rattle.equality.specs.Search.{Tree, searchTree};
+ghost use Rattle.equality.specs.Search.{nodeRule, Tree, searchTree};
 ghost use Rattle.equality.proofs.Visits.{Visits};
 ghost use Rattle.node.specs.Settled.{Marked, Later};
 ghost use Rattle.node.specs.Scan.{Scannable};
@@ -83,7 +83,7 @@ fn visit(
     requires { ⌜ Searchable (now sheet) m (now grouping) × Marked (map .lots) (now sheet) (now marks) level
         × ((ds : Decisions) × (Standing (now sheet) map (now pairs) count ds × Resumes (now sheet) from ds × LevelWithin (now sheet) level ds)) ⌝ }
     ensures visited { λ r. ⌜ ((ds : Decisions) (t : Tree) → Standing (now (sheet .entry)) map (now (pairs .entry)) count ds → Resumes (now (sheet .entry)) from ds
-        → Visits (conditions (now (sheet .entry))) ds t
+        → Visits (nodeRule (conditions (now (sheet .entry)))) ds t
         → Explored before (now (store .entry)) (now (store .exit)) (now (grouping .entry)) (now (grouping .exit)) r t) ⌝ }
     ensures pairs { λ r. ⌜ Untouched (now (pairs .entry)) (now (pairs .exit)) count ⌝ }
     ensures marks { λ r. ⌜ Later (now (marks .entry)) (now (marks .exit)) level ⌝ }
@@ -140,7 +140,7 @@ fn branches(
         × SplitLeaves (now sheet) on ds × LevelWithin (now sheet) level ds)) ⌝ }
     ensures visited { λ r. ⌜ ((ds : Decisions) (t : Tree) → Standing (now (sheet .entry)) map (now (pairs .entry)) count ds
         → node ds (conditions (now (sheet .entry))) ≡ split (on .a .0) (on .b .0) → SplitLeaves (now (sheet .entry)) on ds
-        → Visits (conditions (now (sheet .entry))) ds t
+        → Visits (nodeRule (conditions (now (sheet .entry)))) ds t
         → Explored before (now (store .entry)) (now (store .exit)) (now (grouping .entry)) (now (grouping .exit)) r t) ⌝ }
     ensures pairs { λ r. ⌜ Untouched (now (pairs .entry)) (now (pairs .exit)) count ⌝ }
     ensures marks { λ r. ⌜ Later (now (marks .entry)) (now (marks .exit)) level ⌝ }

@@ -11,7 +11,7 @@ use Rattle.sheet.proofs.Ranges.{All}
 use Rattle.sheet.proofs.Accepted.{sound}
 use Rattle.sheet.proofs.Conditions.{conditions-length}
 use Rattle.equality.specs.Node.{Decisions}
-use Rattle.equality.specs.Search.{Tree, metLeaf, groundLeaf, oneBranch, twoBranches, nodeCount, searchTree}
+use Rattle.equality.specs.Search.{Tree, metLeaf, groundLeaf, oneBranch, twoBranches, nodeCount, nodeRule, searchTree}
 use Rattle.equality.proofs.Small.{Small, conditions-small}
 use Rattle.equality.proofs.Rule.{TakenAt, ground-at, split-at}
 use Rattle.equality.proofs.Opens.{pair-small}
@@ -33,7 +33,7 @@ node-count (twoBranches a b t u) = omega arith
 
 module _ (s : List ℕ) (ok : Accepted s) where
   -- The records of a tree from `at` on fit where their numbers do,
-  tree-fits : {ds : Decisions} {t : Tree} → Visits (conditions s) ds t → All Small ds → (at : ℕ) → at + nodeCount t ≤ suc mostNodes → All Fits (records at t)
+  tree-fits : {ds : Decisions} {t : Tree} → Visits (nodeRule (conditions s)) ds t → All Small ds → (at : ℕ) → at + nodeCount t ≤ suc mostNodes → All Fits (records at t)
   unfolding records nodeCount
   tree-fits (visits-met e) small at h = (tt, tt)
   tree-fits {ds} (visits-ground {c = c} e) small at h =

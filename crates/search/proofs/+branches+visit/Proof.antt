@@ -12,7 +12,7 @@ use lib.Seq.{sets}
 use Rattle.sheet.specs.Bytes.{twoBytes}
 use Rattle.sheet.specs.Conditions.{same, apart, conditions}
 use Rattle.equality.specs.Node.{Decisions, split, node}
-use Rattle.equality.specs.Search.{Tree, groupingBytes}
+use Rattle.equality.specs.Search.{nodeRule, Tree, groupingBytes}
 use Rattle.equality.proofs.Visits.{Visits, met-tree, ground-tree, split-tree}
 use Rattle.store.specs.Records.{recordLength, splitRecord, groundRecord, metRecord, encode, capacity}
 use Rattle.node.specs.declared.Node as declared
@@ -117,7 +117,7 @@ branches-written t c =
 branches-told : (t : ℕ) (c : branches-lts.After-visit (branches-claims t) (branches-at t) branches.Post) (ds : Decisions)
     → Standing (c .before .before .before .before .before .before .before .before .before .before .before .before .before .before .before .before .before .before .before .before .before .before .args .sheet .now) (c .before .before .before .before .before .before .before .before .before .before .before .before .before .before .before .before .before .before .before .before .before .before .args .map) (c .before .before .before .before .before .before .before .before .before .before .before .before .before .before .before .before .before .before .before .before .before .before .args .pairs .now) (c .before .before .before .before .before .before .before .before .before .before .before .before .before .before .before .before .before .before .before .before .before .before .args .count) ds
     → node ds (conditions (c .before .before .before .before .before .before .before .before .before .before .before .before .before .before .before .before .before .before .before .before .before .before .args .sheet .now)) ≡ split (c .before .before .before .before .before .before .before .before .before .before .before .before .before .before .before .before .before .before .before .before .before .before .args .on .a .0) (c .before .before .before .before .before .before .before .before .before .before .before .before .before .before .before .before .before .before .before .before .before .before .args .on .b .0)
-    → (tree : Tree) → Visits (conditions (c .before .before .before .before .before .before .before .before .before .before .before .before .before .before .before .before .before .before .before .before .before .before .args .sheet .now)) (same (c .before .before .before .before .before .before .before .before .before .before .before .before .before .before .before .before .before .before .before .before .before .before .args .on .a .0) (c .before .before .before .before .before .before .before .before .before .before .before .before .before .before .before .before .before .before .before .before .before .before .args .on .b .0) ∷ ds) tree
+    → (tree : Tree) → Visits (nodeRule (conditions (c .before .before .before .before .before .before .before .before .before .before .before .before .before .before .before .before .before .before .before .before .before .before .args .sheet .now))) (same (c .before .before .before .before .before .before .before .before .before .before .before .before .before .before .before .before .before .before .before .before .before .before .args .on .a .0) (c .before .before .before .before .before .before .before .before .before .before .before .before .before .before .before .before .before .before .before .before .before .before .args .on .b .0) ∷ ds) tree
     → Explored (c .before .before .before .before .before .before .before .before .before .before .before .before .before .before .before .before .before .before .before .before .before .before .args .before + 1) (c .before .before .before .before .before .before .before .before .before .before .before .before .before .write .last .0) (c .visit .last .1 .1 .1 .1 .1 .1 .1 .1 .0) (c .before .before .before .before .before .before .before .before .before .before .before .before .before .before .before .before .before .before .before .before .before .before .args .grouping .now) (c .visit .last .1 .1 .1 .1 .1 .1 .1 .0) (c .visit .result) tree
 branches-told t c ds st e tree v =
     let start = c .before .before .before .before .before .before .before .before .before .before .before .before .before .before .before .before .before .before .before .before .before .before in
