@@ -9,16 +9,17 @@ use lib.ListN.{getD}
 use Rattle.sheet.specs.Format.{mostLots, conditionCount, headAt}
 use Rattle.sheet.specs.Checks.{Accepted}
 use Rattle.sheet.specs.Conditions.{Term, same, apart, termsFrom, conditionAt, conditions}
-use Rattle.sheet.proofs.Ranges.{All}
+use Rattle.buffers.specs.Lists.{All}
 use Rattle.sheet.proofs.Conditions.{conditions-length, conditions-at}
 use Rattle.equality.specs.Meaning.{someTerm}
 use Rattle.equality.specs.Node.{Decisions, classOf, classes, share, markedApart, isTrue, isFalse, isOpen, value}
-use Rattle.equality.proofs.Small.{Small, all-map, conditions-small}
+use Rattle.equality.specs.Opens.{Small}
+use Rattle.buffers.proofs.Lists.{all-map, all-nth}
+use Rattle.equality.proofs.Small.{conditions-small}
 use Rattle.equality.proofs.Classes.{classes-length}
 use Rattle.equality.proofs.Least.{least}
 use Rattle.equality.proofs.Some.{some-agree}
 use Rattle.refutation.specs.Refutation.{notFalse, groundFails, named}
-use Rattle.refutation.proofs.Sound.{all-nth}
 use Rattle.checker.specs.Table.{cell, Unmarked, stamped, ClassesWithin, ClassMap, allows}
 use Rattle.checker.proofs.Marks.{marks-say}
 

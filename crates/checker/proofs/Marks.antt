@@ -11,9 +11,9 @@ use lib.ListN.{length, getD, set, replicate, length-set}
 use lib.Seq.{getD-set-same, getD-set-other}
 use Rattle.sheet.specs.Format.{mostLots}
 use Rattle.sheet.specs.Conditions.{Term, same, apart, termOf}
-use Rattle.sheet.proofs.Ranges.{All}
+use Rattle.buffers.specs.Lists.{All}
 use Rattle.equality.specs.Node.{Decisions, classOf, between, marked}
-use Rattle.equality.proofs.Small.{Small}
+use Rattle.equality.specs.Opens.{Small}
 use Rattle.refutation.specs.Refutation.{decisionsOf}
 use Rattle.path.specs.declared.Pair.{Pair}
 use Rattle.path.specs.Paths.{splitIn, pathOf, decisionOf}

@@ -11,9 +11,9 @@ use lib.ListN.{length, getD, set, length-set}
 use lib.Seq.{getD-set-same, getD-set-other}
 use Rattle.sheet.specs.Format.{mostLots}
 use Rattle.sheet.specs.Conditions.{same, apart}
-use Rattle.sheet.proofs.Ranges.{All}
+use Rattle.buffers.specs.Lists.{All}
 use Rattle.equality.specs.Node.{Decisions, merged, classOf, classes, smallestLot, between, marked, markedApart}
-use Rattle.equality.proofs.Small.{Small}
+use Rattle.equality.specs.Opens.{Small}
 use Rattle.equality.proofs.Least.{least, least-again}
 use Rattle.classes.specs.declared.Classes.{Classes}
 use Rattle.classes.specs.Pairs.{setApart, withPair, PairsWithin, onlyApart, Represents}

@@ -5,13 +5,14 @@ use mathlib.Core.List.{List, [], _∷_, flatten}
 use native.Mathlib.Omega.{arith}
 use lib.ListN.{length, length-append}
 use Rattle.sheet.specs.Conditions.{Term, same, apart}
-use Rattle.sheet.proofs.Ranges.{All}
+use Rattle.buffers.specs.Lists.{All}
 use Rattle.equality.specs.Node.{Decisions}
 use Rattle.equality.specs.Search.{Tree, depth, nodeCount, sameTerms, nodeRule, allSameTerms, searchTree}
-use Rattle.equality.proofs.Small.{Small}
+use Rattle.equality.specs.Opens.{Small, allOpens}
 use Rattle.equality.proofs.Rule.{SplitAt, split-at}
-use Rattle.equality.proofs.Opens.{allOpens, opens-all-same, pair-small, same-fewer, apart-fewer}
-use Rattle.equality.proofs.Visits.{Visits, visits-met, visits-ground, visits-one, visits-two, search-visits}
+use Rattle.equality.proofs.Opens.{opens-all-same, pair-small, same-fewer, apart-fewer}
+use Rattle.equality.specs.Visits.{Visits, visits-met, visits-ground, visits-one, visits-two}
+use Rattle.equality.proofs.Visits.{search-visits}
 
 -- "Same" terms are terms.
 same-terms : (ts : List Term) → sameTerms ts ≤ length ts

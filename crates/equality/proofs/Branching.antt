@@ -7,17 +7,17 @@ use mathlib.Core.Path.{_≡_, refl, sym, ap, _∙_}
 use native.Mathlib.Nat.{le-refl, mul-add, add-mul, mul-le-mul, mul-pos}
 use native.Mathlib.Omega.{arith}
 use Rattle.sheet.specs.Conditions.{Term, same, apart}
-use Rattle.sheet.proofs.Ranges.{All}
+use Rattle.buffers.specs.Lists.{All}
 use Rattle.equality.specs.Meaning.{anyTerm}
 use Rattle.equality.specs.Node.{Decisions, markedApart, Value, isTrue, isFalse, isOpen, value}
 use Rattle.equality.specs.Search.{sameTerms, nodeCount, searchTree, branching}
 use Rattle.equality.proofs.Tests.{or-cases}
-use Rattle.equality.proofs.Small.{Small}
+use Rattle.equality.specs.Opens.{Small, closed, opens}
 use Rattle.equality.proofs.Node.{openSame, taken-values}
-use Rattle.equality.proofs.Steps.{closed, SmallPair, same-closed, apart-closed, same-shares, apart-closes, open-not-closed}
+use Rattle.equality.proofs.Steps.{SmallPair, same-closed, apart-closed, same-shares, apart-closes, open-not-closed}
 use Rattle.equality.proofs.Truth.{same-true, apart-true}
 use Rattle.equality.proofs.Rule.{SplitAt}
-use Rattle.equality.proofs.Opens.{opens, opens-same, opens-fall, opens-fewer, Further, pair-small}
+use Rattle.equality.proofs.Opens.{opens-same, opens-fall, opens-fewer, Further, pair-small}
 use Rattle.equality.proofs.Bounds.{search-count}
 
 -- ---- φ

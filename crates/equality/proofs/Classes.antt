@@ -10,10 +10,11 @@ use lib.Dec.{eqb, leb}
 use lib.ListN.{length, getD, length-map}
 use Rattle.sheet.specs.Format.{mostLots}
 use Rattle.sheet.specs.Conditions.{Term, same, apart, countUp}
-use Rattle.sheet.proofs.Ranges.{All, length-countUp}
+use Rattle.buffers.specs.Lists.{All}
+use Rattle.sheet.proofs.Ranges.{length-countUp}
 use Rattle.equality.specs.Meaning.{Holds}
 use Rattle.equality.specs.Node.{Decisions, Respects, merged, classes, smallestLot, share, between, marked, markedApart, Value, isTrue, isFalse, isOpen, value}
-use Rattle.equality.proofs.Small.{Small}
+use Rattle.equality.specs.Opens.{Small}
 use Rattle.equality.proofs.Tests.{or-cases, and-true-both}
 
 -- ---- entries

@@ -5,11 +5,11 @@ use mathlib.Core.List.{List, [], _∷_, _++_}
 use mathlib.Core.Logic.{_≢_}
 use mathlib.Core.Path.{_≡_, refl, sym, ap, _∙_}
 use Rattle.sheet.specs.Conditions.{Term, same, apart}
-use Rattle.sheet.proofs.Ranges.{All}
+use Rattle.buffers.specs.Lists.{All}
 use Rattle.equality.specs.Meaning.{holds, meetsCondition}
 use Rattle.equality.specs.Node.{Decisions, classes, smallestLot, share, markedApart, Value, isTrue, isFalse, isOpen, value, trueOrOpenApart, Taken, noCondition, takes, passedOver, taken, openOr, groundOrSplit}
 use Rattle.equality.proofs.Some.{some-agrees, some-none}
-use Rattle.equality.proofs.Small.{all-map}
+use Rattle.buffers.proofs.Lists.{all-map}
 
 -- ---- the condition taken depends on classes alone
 

@@ -6,26 +6,13 @@ use mathlib.Core.Path.{_≡_, refl, sym, ap, _∙_}
 use native.Mathlib.Omega.{arith}
 use borrow.Author.Needs.{zero≤}
 use Rattle.sheet.specs.Conditions.{Term, same, apart}
-use Rattle.sheet.proofs.Ranges.{All}
+use Rattle.buffers.specs.Lists.{All}
+use Rattle.buffers.proofs.Lists.{all-at}
 use Rattle.equality.specs.Node.{Decisions}
 use Rattle.equality.specs.Search.{sameTerms, allSameTerms}
-use Rattle.equality.proofs.Small.{Small}
-use Rattle.equality.proofs.Steps.{closed, SmallPair, open-not-closed, same-closed, apart-closed, same-closes, apart-closes}
+use Rattle.equality.specs.Opens.{Small, closed, openCount, opens, allOpens}
+use Rattle.equality.proofs.Steps.{SmallPair, open-not-closed, same-closed, apart-closed, same-closes, apart-closes}
 use Rattle.equality.proofs.Rule.{SplitAt}
-
--- ---- how many "same" terms are open
-
-abbrev pub openCount : Decisions → Term → ℕ
-openCount ds (same a b) = cond (closed ds a b) 0 1
-openCount ds (apart a b) = 0
-
-unfoldable pub opens : Decisions → List Term → ℕ
-opens ds [] = 0
-opens ds (t ∷ ts) = openCount ds t + opens ds ts
-
-unfoldable pub allOpens : Decisions → List (List Term) → ℕ
-allOpens ds [] = 0
-allOpens ds (ts ∷ tss) = opens ds ts + allOpens ds tss
 
 -- They are at most the "same" terms.
 pub opens-same : (ds : Decisions) (ts : List Term) → opens ds ts ≤ sameTerms ts
@@ -85,10 +72,6 @@ module _ (ds ds′ : Decisions) (further : Further ds ds′) where
         omega (arith, opens-fall ts (small .0), all-opens-fewer front back before after (small .1))
 
 -- ---- at a split
-
-pub all-at : {A : Type 0} (P : A → Type 0) (front : List A) (x : A) (back : List A) → All P (front ++ x ∷ back) → P x
-all-at P [] x back h = h .0
-all-at P (y ∷ front) x back h = all-at P front x back (h .1)
 
 module _ (ds : Decisions) (small : All Small ds) (tss : List (List Term)) (smalls : All (All Small) tss) (a b : ℕ) (at : SplitAt ds tss a b) where
   -- The conditions, with the taken one and its first open term in their places.

@@ -7,7 +7,8 @@ use mathlib.Core.Path.{_≡_, refl, sym, ap, _∙_}
 use Rattle.sheet.specs.Format.{recordCount, nextAt}
 use Rattle.sheet.specs.Checks.{Accepted}
 use Rattle.sheet.specs.Conditions.{Term, termAt, termsFrom}
-use Rattle.sheet.proofs.Ranges.{All}
+use Rattle.buffers.specs.Lists.{All}
+use Rattle.buffers.proofs.Lists.{all-both}
 use Rattle.sheet.proofs.Accepted.{sound}
 use Rattle.sheet.proofs.ChainEnds.{terms-end, terms-step}
 use Rattle.equality.specs.Meaning.{anyTerm}
@@ -23,10 +24,6 @@ pub record Passing (q : Term → Bool) (s : List ℕ) (head at : ℕ) : Type 0 w
 pub passing-start : (q : Term → Bool) (s : List ℕ) (head : ℕ) → head ≤ recordCount s → Passing q s head head
 passing-start q s head h = record { within = h; passed = []; falses = tt; place = refl }
 
-all-snoc : {A : Type 0} (P : A → Type 0) (xs : List A) (x : A) → All P xs → P x → All P (xs ++ x ∷ [])
-all-snoc P [] x h hx = (hx, tt)
-all-snoc P (y ∷ xs) x h hx = (h .0, all-snoc P xs x (h .1) hx)
-
 module _ (q : Term → Bool) (s : List ℕ) (ok : Accepted s) (head at : ℕ) (l : Passing q s head at) where
   stepped : 1 ≤ at → termsFrom s head ≡ l .passed ++ termAt s at ∷ termsFrom s (nextAt s at)
   stepped h = l .place ∙ ap (λ (ts : List Term). l .passed ++ ts) (terms-step s ok at h (l .within))
@@ -41,7 +38,7 @@ module _ (q : Term → Bool) (s : List ℕ) (ok : Accepted s) (head at : ℕ) (l
       record {
         within = sound s ok .records at h (l .within) .next;
         passed = l .passed ++ termAt s at ∷ [];
-        falses = all-snoc (λ t. q t ≡ false) (l .passed) (termAt s at) (l .falses) e;
+        falses = all-both (λ t. q t ≡ false) (l .passed) (termAt s at ∷ []) (l .falses) (e, tt);
         place = stepped h ∙ sym (append-assoc (l .passed) (termAt s at ∷ []) (termsFrom s (nextAt s at)));
       }
 

@@ -7,18 +7,20 @@ use mathlib.Core.Logic.{_≢_, _↔_}
 use mathlib.Core.Path.{_≡_, refl, sym, _∙_}
 use native.Mathlib.Decide.{ℕ-discrete}
 use Rattle.sheet.specs.Conditions.{Term}
-use Rattle.sheet.proofs.Ranges.{All}
+use Rattle.buffers.specs.Lists.{All}
 use Rattle.equality.specs.Meaning.{Holds, MeetsCondition, MeetsAll, meetsAll}
 use Rattle.equality.specs.Node.{Decisions, Respects, smallestLot, isFalse, value, trueOrOpenApart, passedOver, met, node}
 use Rattle.equality.specs.Search.{Tree, isMet, metDecisions, nodeRule, searchTree}
 use Rattle.equality.proofs.Meaning.{all-decides}
 use Rattle.equality.proofs.Some.{none-some}
-use Rattle.equality.proofs.Small.{Small}
+use Rattle.equality.specs.Opens.{Small}
 use Rattle.equality.proofs.Classes.{Says, value-says}
 use Rattle.equality.proofs.Node.{passed-by-classes}
 use Rattle.equality.proofs.Rule.{GroundAt, met-passed, ground-at, ground-false, split-at}
-use Rattle.equality.proofs.Opens.{all-at, pair-small}
-use Rattle.equality.proofs.Visits.{Visits, visits-met, visits-ground, visits-one, visits-two, met-rule, search-visits}
+use Rattle.buffers.proofs.Lists.{all-at}
+use Rattle.equality.proofs.Opens.{pair-small}
+use Rattle.equality.specs.Visits.{Visits, visits-met, visits-ground, visits-one, visits-two}
+use Rattle.equality.proofs.Visits.{met-rule, search-visits}
 
 -- ---- met
 

@@ -7,7 +7,7 @@ use mathlib.Core.Path.{_≡_, refl, sym, ap, _∙_}
 use native.Mathlib.Omega.{arith}
 use lib.ListN.{length}
 use Rattle.sheet.specs.Conditions.{Term, same, apart}
-use Rattle.sheet.proofs.Ranges.{All}
+use Rattle.buffers.specs.Lists.{All}
 use Rattle.equality.specs.Node.{Decisions, markedApart, Value, isTrue, isFalse, isOpen, value, Taken, noCondition, takes, passedOver, taken, met, ground, split, splitOn, openOr, groundOrSplit, nodeOf, node}
 use Rattle.equality.proofs.Node.{openSame, taken-values}
 

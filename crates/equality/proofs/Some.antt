@@ -5,7 +5,7 @@ use mathlib.Core.Logic.{⊎-elim}
 use mathlib.Core.Path.{_≡_, refl, sym, ap, ap₂, fun-ext, _∙_}
 use lib.Dec.{T}
 use Rattle.sheet.specs.Conditions.{Term}
-use Rattle.sheet.proofs.Ranges.{All}
+use Rattle.buffers.specs.Lists.{All}
 use Rattle.equality.specs.Meaning.{AnyTerm, anyTerm, noTerm, SomeTerm, someTerm}
 
 or-false : (p q : Bool) → (p || q) ≡ false → (p ≡ false) × (q ≡ false)

@@ -8,25 +8,16 @@ use lib.Dec.{eqb}
 use lib.ListN.{getD}
 use Rattle.sheet.specs.Format.{mostLots}
 use Rattle.sheet.specs.Conditions.{Term, same, apart}
-use Rattle.sheet.proofs.Ranges.{All}
+use Rattle.buffers.specs.Lists.{All}
 use Rattle.equality.specs.Node.{Decisions, classes, smallestLot, share, between, marked, markedApart, isTrue, isFalse, isOpen, value}
 use Rattle.equality.proofs.Tests.{or-cases, and-true-both}
-use Rattle.equality.proofs.Small.{Small}
+use Rattle.equality.specs.Opens.{Small, closed, closedTerm}
 use Rattle.equality.proofs.Classes.{joinedTo, same-class}
 
 eqb-self : (n : ℕ) → eqb n n ≡ true
 eqb-self n = eq-eqb n n refl
 
--- ---- a pair is closed where its lots share a class or their classes are marked apart
-
-abbrev pub closed : Decisions → ℕ → ℕ → Bool
-closed ds a b = share ds a b || markedApart ds a b
-
-abbrev pub closedTerm : Decisions → Term → Bool
-closedTerm ds (same a b) = closed ds a b
-closedTerm ds (apart a b) = closed ds a b
-
--- A term is open exactly where its pair is not closed.
+-- ---- a term is open exactly where its pair is not closed
 pub open-not-closed : (ds : Decisions) (t : Term) → value ds t ≡ isOpen → closedTerm ds t ≡ false
 unfolding value
 open-not-closed ds (same a b) e = go (share ds a b) (markedApart ds a b) e

@@ -8,12 +8,12 @@ use borrow.Author.Tests.{eqb-true, eqb-false, eq-eqb}
 use lib.Dec.{eqb}
 use lib.ListN.{getD}
 use Rattle.sheet.specs.Conditions.{Term, same, apart}
-use Rattle.sheet.proofs.Ranges.{All}
+use Rattle.buffers.specs.Lists.{All}
 use Rattle.equality.specs.Node.{Decisions, classes, smallestLot, share, marked, markedApart, isTrue, isFalse, isOpen, value}
 use Rattle.equality.proofs.Tests.{or-cases}
-use Rattle.equality.proofs.Small.{Small}
+use Rattle.equality.specs.Opens.{Small, closed}
 use Rattle.equality.proofs.Classes.{joinedTo, same-class, min-either}
-use Rattle.equality.proofs.Steps.{closed, share-stays, marked-stays}
+use Rattle.equality.proofs.Steps.{share-stays, marked-stays}
 
 -- ---- two classes that one join makes equal were equal before, or are the two that were joined
 

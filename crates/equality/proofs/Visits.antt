@@ -1,25 +1,17 @@
--- The rule followed without fuel: which tree is visited from which decisions. Any sufficient fuel gives that tree, so fuel never decides.
+-- Any sufficient fuel gives the tree that the rule visits without fuel, so fuel never decides; for every rule of which a measure falls at each split.
 use Prim.Native.Nat.{ℕ, zero, suc, _≤_, _<_}
 use mathlib.Core.Bool.{Bool, true, false, false≢true}
 use mathlib.Core.List.{List, [], _∷_}
 use mathlib.Core.Path.{_≡_, refl, ap}
 use native.Mathlib.Omega.{arith}
 use Rattle.sheet.specs.Conditions.{Term, same, apart}
-use Rattle.sheet.proofs.Ranges.{All}
+use Rattle.buffers.specs.Lists.{All}
 use Rattle.equality.specs.Node.{Decisions, Node, met, ground, split, node}
 use Rattle.equality.specs.Search.{Tree, metLeaf, groundLeaf, oneBranch, twoBranches, isMet, afterSame, visitNode, visit, nodeRule, depth, metDecisions, allSameTerms, searchTree}
-use Rattle.equality.proofs.Small.{Small}
+use Rattle.equality.specs.Visits.{Visits, visits-met, visits-ground, visits-one, visits-two}
+use Rattle.equality.specs.Opens.{Small, allOpens}
 use Rattle.equality.proofs.Rule.{split-at}
-use Rattle.equality.proofs.Opens.{allOpens, opens-all-same, pair-small, same-fewer, apart-fewer}
-
--- The tree is what the rule visits from the decisions on.
-pub data Visits (rule : Decisions → Node) : Decisions → Tree → Type 0 where
-  visits-met : {ds : Decisions} → rule ds ≡ met → Visits rule ds (metLeaf ds)
-  visits-ground : {ds : Decisions} {c : ℕ} → rule ds ≡ ground c → Visits rule ds (groundLeaf c)
-  visits-one : {ds : Decisions} {a b : ℕ} {t : Tree} → rule ds ≡ split a b → Visits rule (same a b ∷ ds) t → isMet t ≡ true
-      → Visits rule ds (oneBranch a b t)
-  visits-two : {ds : Decisions} {a b : ℕ} {t u : Tree} → rule ds ≡ split a b → Visits rule (same a b ∷ ds) t → isMet t ≡ false
-      → Visits rule (apart a b ∷ ds) u → Visits rule ds (twoBranches a b t u)
+use Rattle.equality.proofs.Opens.{opens-all-same, pair-small, same-fewer, apart-fewer}
 
 -- The decisions of the met node are those of a met node.
 pub met-rule : {rule : Decisions → Node} {ds : Decisions} {t : Tree} → Visits rule ds t → isMet t ≡ true → rule (metDecisions t) ≡ met
@@ -137,7 +129,7 @@ module _ {rule : Decisions → Node} {ds : Decisions} where
       let second : y ≡ b = cc in
       rw (← first, ← second) (two v m w)
 
--- ---- the rule without a limit
+-- ---- the node rule
 
 module _ (tss : List (List Term)) (smalls : All (All Small) tss) where
   pub node-branches : (ds : Decisions) → All Small ds → (a b : ℕ) → node ds tss ≡ split a b → Branches (All Small) (λ ds. allOpens ds tss) ds a b

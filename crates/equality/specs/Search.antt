@@ -35,13 +35,13 @@ visitNode visitBranch ds (ground c) = groundLeaf c
 visitNode visitBranch ds (split a b) =
     let t = visitBranch (same a b ∷ ds) in afterSame visitBranch ds a b t (isMet t)
 
--- The visit of the node of these decisions. "No path has more splits than the sheet has "same" terms.", so any `fuel` above the "same"
+-- The visit of the node of these decisions, by a rule that says what the node is. "No path has more splits than the sheet has "same" terms.", so any `fuel` above the "same"
 -- terms gives the same tree, and fuel never decides.
 unfoldable pub visit : (Decisions → Node) → ℕ → Decisions → Tree
 visit rule zero ds = groundLeaf 0
 visit rule (suc fuel) ds = visitNode (visit rule fuel) ds (rule ds)
 
--- The rule without a limit.
+-- The rule of document 01, over these conditions.
 abbrev pub nodeRule : List (List Term) → Decisions → Node
 nodeRule tss ds = node ds tss
 

@@ -3,7 +3,7 @@ use Prim.Native.Nat.{ℕ, zero, suc, _*_}
 use mathlib.Core.List.{List, map}
 use mathlib.Core.Path.{_≡_, refl}
 use lib.ListN.{take}
-use Rattle.sheet.specs.Bytes.{number, twoBytes}
+use Rattle.buffers.specs.Bytes.{number, twoBytes}
 use Rattle.sheet.specs.Format.{headAt, signAt, spareAt, firstLotAt, secondLotAt, nextAt}
 use Rattle.sheet.specs.Checks.{firstRefusal, lowestRefusal, check1, check2, check3, check4, wellFormed, check5, member, walkChain, walkChains, walked, check6, check7, sheetChecks, sheetVerdict}
 use Rattle.sheet.specs.Conditions.{chain, recordsFrom, termsFrom, countUp, conditions}
@@ -12,8 +12,9 @@ use Rattle.equality.specs.Meaning.{anyTerm, someTerm}
 use Rattle.equality.specs.Node.{merged, classes, marked, value, taken, groundOrSplit, node}
 use Rattle.equality.specs.Search.{isMet, afterSame, visitNode, visit, sameTerms, allSameTerms, searchTree, nodeCount, metDecisions, groupingBytes}
 use Rattle.equality.specs.Evaluator.{check8, groupingVerdict, lowestUnmet, evaluateAnswer}
-use Rattle.store.specs.Records.{recordLength, records, encode, ofKind, decode, recordsOf, encodeAll}
-use Rattle.store.specs.Outcome.{Outcome, resultOf, searchOutcome}
+use Rattle.store.specs.Records.{recordLength, encode, ofKind, decode, recordsOf, encodeAll}
+use Rattle.outcome.specs.Nodes.{records}
+use Rattle.outcome.specs.Outcome.{Outcome, resultOf, searchOutcome}
 use Rattle.refutation.specs.Refutation.{groundFails, nearest, walkFrom, check10, walkVerdict, listVerdict, checkAnswer}
 use Rattle.text.specs.Lines.{digits, decimal, line}
 use Rattle.text.specs.Program.{headerLine, recordLine, recordLines, refusedLine, metLine, cannotLine, resultText, printed}

@@ -3,7 +3,7 @@ ghost use mathlib.Core.Path.{_≡_};
 ghost use Rattle.sheet.specs.Answers.{refused, answered, readAnswer, readingAnswer};
 ghost use Rattle.equality.specs.Evaluator.{evaluateAnswer};
 ghost use Rattle.evaluator.specs.Answers.{evaluationAnswer};
-ghost use Rattle.store.specs.Outcome.{searchOutcome};
+ghost use Rattle.outcome.specs.Outcome.{searchOutcome};
 ghost use Rattle.search.specs.Answers.{searchAnswer};
 ghost use Rattle.refutation.specs.Refutation.{checkAnswer};
 ghost use Rattle.checker.specs.Answers.{checkedAnswer};

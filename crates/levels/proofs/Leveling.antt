@@ -11,9 +11,9 @@ use lib.ListN.{length, getD, set, length-set, length-map}
 use lib.Seq.{getD-set-same, getD-set-other}
 use Rattle.sheet.specs.Format.{mostLots}
 use Rattle.sheet.specs.Conditions.{Term, same, apart}
-use Rattle.sheet.proofs.Ranges.{All}
+use Rattle.buffers.specs.Lists.{All}
 use Rattle.equality.specs.Node.{Decisions, merged, classOf, classes, smallestLot, share}
-use Rattle.equality.proofs.Small.{Small}
+use Rattle.equality.specs.Opens.{Small}
 use Rattle.classes.specs.Joins.{joins}
 use Rattle.classes.proofs.Joins.{joins-most}
 use Rattle.refutation.specs.Refutation.{Split, mostSplits, decisionsOf, turned}

@@ -10,14 +10,15 @@ use native.Mathlib.Omega.{arith}
 use Rattle.sheet.specs.Format.{recordCount, nextAt}
 use Rattle.sheet.specs.Checks.{Accepted}
 use Rattle.sheet.specs.Conditions.{Term, same, apart, termOf, termAt, termsFrom}
-use Rattle.sheet.proofs.Ranges.{All}
+use Rattle.buffers.specs.Lists.{All}
 use Rattle.sheet.proofs.Accepted.{sound}
 use Rattle.sheet.proofs.ChainEnds.{terms-end, terms-step}
 use Rattle.equality.specs.Node.{Decisions, classOf, marked, markedApart, Value, isFalse, isOpen, value, trueOrOpenApart, passedOver, ground, split, openOr, groundOrSplit}
-use Rattle.equality.proofs.Small.{all-map}
+use Rattle.buffers.proofs.Lists.{all-map}
 use Rattle.equality.proofs.Some.{some-false, some-none}
 use Rattle.equality.proofs.Node.{openSame, taken-values, passed-by}
-use Rattle.equality.proofs.Steps.{closedTerm, open-not-closed, not-closed-open, apart-closed, apart-closes}
+use Rattle.equality.specs.Opens.{closedTerm}
+use Rattle.equality.proofs.Steps.{open-not-closed, not-closed-open, apart-closed, apart-closes}
 use Rattle.classes.specs.Pairs.{setApart}
 use Rattle.node.specs.Resume.{PassesTo}
 

@@ -9,7 +9,8 @@ use Rattle.equality.specs.Node.{Decisions, passedOver, noCondition, takes, take
 use Rattle.equality.proofs.Node.{taken-apart, passed-by}
 use Rattle.equality.proofs.Rule.{taken-at, no-open}
 use Rattle.node.specs.Resume.{PassesTo, ResumesWithin}
-use Rattle.node.proofs.Opening.{all-both, unsettled-rest, NoneOpen, none-ground, none-later}
+use Rattle.buffers.proofs.Lists.{all-both}
+use Rattle.node.proofs.Opening.{unsettled-rest, NoneOpen, none-ground, none-later}
 
 -- ---- after the scan
 

@@ -13,12 +13,12 @@ use lib.Seq.{getD-set-same, getD-set-other}
 use Rattle.sheet.specs.Format.{conditionCount, recordCount, nextAt}
 use Rattle.sheet.specs.Checks.{Accepted}
 use Rattle.sheet.specs.Conditions.{Term, same, apart, termOf, termAt, termsFrom, conditionAt, conditions}
-use Rattle.sheet.proofs.Ranges.{All}
+use Rattle.buffers.specs.Lists.{All}
 use Rattle.sheet.proofs.Conditions.{conditions-length}
 use Rattle.sheet.proofs.ChainEnds.{terms-step}
 use Rattle.equality.specs.Meaning.{holds, someTerm, meetsCondition}
 use Rattle.equality.specs.Node.{Decisions, merged, classOf, classes, takes, taken, split, groundOrSplit, nodeOf, node}
-use Rattle.equality.proofs.Small.{all-map}
+use Rattle.buffers.proofs.Lists.{all-map}
 use Rattle.equality.proofs.Some.{some-false, some-none, some-here}
 use Rattle.equality.proofs.Node.{taken-values, passed-by-classes}
 use Rattle.equality.proofs.Rule.{taken-at, OpenAt, open-at}

@@ -10,8 +10,8 @@ use lib.Dec.{eqb}
 use lib.ListN.{length}
 use Rattle.sheet.specs.Format.{mostLots}
 use Rattle.sheet.specs.Conditions.{same, apart, termOf}
-use Rattle.sheet.proofs.Ranges.{All}
-use Rattle.equality.proofs.Small.{Small}
+use Rattle.buffers.specs.Lists.{All}
+use Rattle.equality.specs.Opens.{Small}
 use Rattle.refutation.specs.Refutation.{Split, decisionsOf, turned}
 use Rattle.path.specs.declared.Split as declared
 use Rattle.path.specs.Paths.{splitLength, sameBranch, branchIn, firstLotIn, secondLotIn, splitIn, pathOf, PathWithin, splitOf}

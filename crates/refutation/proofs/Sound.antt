@@ -14,13 +14,14 @@ use Rattle.sheet.specs.Checks.{Accepted, refusesIf, lotInRange}
 use Rattle.sheet.specs.Conditions.{Term, same, apart, conditions}
 use Rattle.sheet.proofs.Verdicts.{orElse-passes, refusesIf-passes, firstRefusal-passes}
 use Rattle.sheet.proofs.Further.{further-passes}
-use Rattle.sheet.proofs.Ranges.{All}
+use Rattle.buffers.specs.Lists.{All}
 use Rattle.sheet.proofs.Accepted.{sound}
 use Rattle.sheet.proofs.Conditions.{conditions-length}
 use Rattle.equality.specs.Meaning.{Holds, MeetsCondition, MeetsAll, Meets}
 use Rattle.equality.specs.Node.{Decisions, Respects, Value, isTrue, isFalse, isOpen, value}
 use Rattle.equality.proofs.Some.{some-none, none-some}
-use Rattle.equality.proofs.Small.{Small, conditions-small}
+use Rattle.equality.specs.Opens.{Small}
+use Rattle.equality.proofs.Small.{conditions-small}
 use Rattle.equality.proofs.Classes.{Says, value-says}
 use Rattle.store.specs.Records.{NodeRecord, splitRecord, groundRecord, metRecord, noRecord, recordsOf}
 use Rattle.refutation.specs.Refutation.{mostSplits, Split, decisionsOf, notFalse, groundFails, nearestOf, nearest, turned, afterGround, named, conditionInRange, walkRecord, walkFrom, check10, walkVerdict, listVerdict, Refutes}

@@ -5,7 +5,7 @@ use mathlib.Core.Path.{_≡_, refl}
 use lib.ListN.{take, set}
 use Rattle.sheet.specs.declared.Verdict.{Verdict}
 use Rattle.sheet.specs.declared.Verdict.the-variants.{Passes, Refuses}
-use Rattle.sheet.specs.Bytes.{number, twoBytes}
+use Rattle.buffers.specs.Bytes.{number, twoBytes}
 use Rattle.sheet.specs.Format.{headAt, signAt, spareAt, firstLotAt, secondLotAt, nextAt}
 use Rattle.sheet.specs.Checks.{firstRefusal, lowestRefusal, check1, check2, check3, check4, wellFormed, check5, member, walkChain, walkChains, walked, check6, check7, sheetChecks}
 use Rattle.sheet.specs.Conditions.{chain, recordsFrom, termsFrom, countUp, conditions}

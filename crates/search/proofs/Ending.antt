@@ -11,10 +11,12 @@ use lib.Seq.{sets, sets-eq, length-take-le}
 use Rattle.sheet.specs.declared.Verdict.the-variants.{Passes}
 use Rattle.sheet.specs.Format.{mostLots}
 use Rattle.equality.specs.Search.{Tree, isMet, nodeCount, metDecisions, groupingBytes}
-use Rattle.store.specs.Records.{records, encodeAll, recordLength, capacity}
-use Rattle.store.specs.Outcome.{fullResult, metOrCannot, resultOf, written}
-use Rattle.store.proofs.Codec.{bytes-count}
-use Rattle.store.proofs.Grouping.{grouping-length}
+use Rattle.outcome.specs.Nodes.{records}
+use Rattle.store.specs.Records.{encodeAll, recordLength, capacity}
+use Rattle.outcome.specs.Outcome.{fullResult, metOrCannot, resultOf}
+use Rattle.buffers.specs.Written.{written}
+use Rattle.outcome.proofs.Fitting.{bytes-count}
+use Rattle.outcome.proofs.Grouping.{grouping-length}
 use Rattle.search.specs.declared.SearchAnswer.the-variants as answers
 use Rattle.search.specs.declared.Visited.{Visited}
 use Rattle.search.specs.declared.Visited.the-variants.{Met, Cannot, Full}

@@ -9,7 +9,7 @@ use Rattle.sheet.specs.Conditions.{conditions}
 use Rattle.equality.specs.Search.{searchTree}
 use Rattle.equality.specs.Evaluator.{groupingVerdict}
 use Rattle.store.specs.Records.{capacity}
-use Rattle.store.specs.Outcome.{resultOf, searchOutcome}
+use Rattle.outcome.specs.Outcome.{resultOf, searchOutcome}
 use Rattle.search.specs.declared.SearchAnswer.{SearchAnswer}
 use Rattle.search.specs.declared.SearchAnswer.the-variants.{Refused}
 use Rattle.search.specs.Answers.{searchAnswer}

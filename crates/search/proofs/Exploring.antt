@@ -9,13 +9,15 @@ use borrow.Author.Tests.{le-leb, lt-leb, leb-true, leb-false}
 use lib.Dec.{leb}
 use lib.ListN.{length, length-append}
 use lib.Seq.{sets, length-sets}
-use Rattle.sheet.specs.Bytes.{twoBytes}
+use Rattle.buffers.specs.Bytes.{twoBytes}
 use Rattle.equality.specs.Node.{Decisions}
 use Rattle.equality.specs.Search.{Tree, metLeaf, groundLeaf, oneBranch, twoBranches, isMet, nodeCount, metDecisions, groupingBytes}
-use Rattle.store.specs.Records.{NodeRecord, splitRecord, groundRecord, metRecord, records, recordLength, encode, encodeAll, mostNodes, capacity}
-use Rattle.store.proofs.Codec.{encode-length, encodeAll-append, bytes-count}
-use Rattle.store.proofs.Fitting.{node-count}
-use Rattle.store.proofs.Writes.{sets-sets, sets-before, next-set}
+use Rattle.store.specs.Records.{NodeRecord, splitRecord, groundRecord, metRecord, recordLength, encode, encodeAll, mostNodes, capacity}
+use Rattle.outcome.specs.Nodes.{records}
+use Rattle.store.proofs.Codec.{encode-length, encodeAll-append}
+use Rattle.outcome.proofs.Fitting.{bytes-count, node-count}
+use Rattle.buffers.proofs.Sets.{sets-sets, sets-before}
+use Rattle.store.proofs.Writes.{next-set}
 use Rattle.search.specs.declared.Visited.{Visited}
 use Rattle.search.specs.declared.Visited.the-variants.{Met, Cannot, Full}
 use Rattle.search.specs.Visited.{endWith, endOf, groupingEnd, Explored}

@@ -20,12 +20,13 @@ use Rattle.equality.specs.Meaning.{Meets}
 use Rattle.equality.specs.Search.{searchTree, isMet, nodeCount}
 use Rattle.equality.specs.Evaluator.{check8, groupingVerdict}
 use Rattle.equality.proofs.Sheets.{sheet-met, sheet-cannot, sheet-branching}
-use Rattle.store.specs.Records.{records, encodeAll, recordLength, capacity}
-use Rattle.store.specs.Outcome.{Result, refusedResult, fullResult, metResult, cannotResult, metOrCannot, fullOr, resultOf, resultAnswer, groupingAfter, storeAfter, searchOutcome}
-use Rattle.store.proofs.Codec.{bytes-count}
+use Rattle.outcome.specs.Nodes.{records}
+use Rattle.store.specs.Records.{encodeAll, recordLength, capacity}
+use Rattle.outcome.specs.Outcome.{Result, refusedResult, fullResult, metResult, cannotResult, metOrCannot, fullOr, resultOf, resultAnswer, groupingAfter, storeAfter, searchOutcome}
+use Rattle.outcome.proofs.Fitting.{bytes-count}
 use Rattle.store.proofs.Grouping as left
 use Rattle.refutation.specs.Refutation.{Refutes, listVerdict, checkAnswer}
-use Rattle.refutation.proofs.Own.{own-grounds-pass}
+use Rattle.outcome.proofs.Own.{own-grounds-pass}
 use Rattle.search.specs.declared.SearchAnswer.{SearchAnswer}
 use Rattle.search.specs.Answers.{searchAnswer}
 use Rattle.search.specs.Promises.{answerCase, searchCase, IsMet, IsCannot, IsFull, RefusedExactly, FullExactly, FullPlace, MetExactly, MetGrouping, CannotExactly, CannotAny, CannotRefutes, CountBounded}

@@ -5,11 +5,12 @@ use mathlib.Core.List.{List, _∷_}
 use mathlib.Core.Path.{_≡_, sym, _∙_}
 use native.Mathlib.Omega.{arith}
 use lib.Seq.{sets}
-use Rattle.sheet.specs.Bytes.{twoBytes}
+use Rattle.buffers.specs.Bytes.{twoBytes}
 use Rattle.sheet.specs.Conditions.{Term, same, apart}
 use Rattle.equality.specs.Node.{Decisions, Node}
 use Rattle.equality.specs.Search.{Tree, oneBranch, twoBranches, nodeCount}
-use Rattle.equality.proofs.Visits.{Visits, SplitTree, one, two}
+use Rattle.equality.specs.Visits.{Visits}
+use Rattle.equality.proofs.Visits.{SplitTree, one, two}
 use Rattle.store.specs.Records.{splitRecord, recordLength, encode, capacity}
 use Rattle.search.specs.declared.Visited.{Visited}
 use Rattle.search.specs.declared.Visited.the-variants.{Met, Cannot, Full}

@@ -16,10 +16,10 @@ use Rattle.equality.specs.Node.{Decisions, classes, merged, classOf, marked, ta
 use Rattle.equality.proofs.Small.{conditions-small}
 use Rattle.equality.proofs.Least.{least}
 use Rattle.equality.proofs.Node.{taken-apart}
-use Rattle.equality.proofs.Steps.{closed}
+use Rattle.equality.specs.Opens.{closed, opens, allOpens}
 use Rattle.equality.proofs.Rule.{split-at}
 use Rattle.equality.proofs.Bounds.{all-same-terms}
-use Rattle.equality.proofs.Opens.{opens, allOpens, opens-all-same, pair-small, same-fewer, apart-fewer}
+use Rattle.equality.proofs.Opens.{opens-all-same, pair-small, same-fewer, apart-fewer}
 use Rattle.classes.specs.declared.Classes.{Classes}
 use Rattle.classes.specs.Pairs.{setApart, withPair, PairsWithin}
 use Rattle.classes.proofs.Path.{pair-leaves, new-represents, join-represents, apart-represents, below-represents, represented-within, smallest-says, marked-says}

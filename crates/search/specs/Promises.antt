@@ -12,7 +12,7 @@ use Rattle.equality.specs.Meaning.{Meets}
 use Rattle.equality.specs.Search.{searchTree, nodeCount, branching}
 use Rattle.equality.specs.Evaluator.{groupingVerdict, GroupingMeets}
 use Rattle.store.specs.Records.{recordLength, capacity}
-use Rattle.store.specs.Outcome.{Result, refusedResult, fullResult, metResult, cannotResult, resultOf}
+use Rattle.outcome.specs.Outcome.{Result, refusedResult, fullResult, metResult, cannotResult, resultOf}
 use Rattle.refutation.specs.Refutation.{checkAnswer}
 use Rattle.search.specs.declared.SearchAnswer.{SearchAnswer}
 use Rattle.search.specs.declared.SearchAnswer.the-variants.{Met, Cannot, Full, Refused}

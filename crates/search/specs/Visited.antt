@@ -8,16 +8,16 @@ use lib.ListN.{length, getD}
 use lib.Seq.{sets}
 use Rattle.sheet.specs.Format.{mostLots, mostRecords}
 use Rattle.sheet.specs.Conditions.{conditions}
-use Rattle.sheet.proofs.Ranges.{All}
+use Rattle.buffers.specs.Lists.{All}
 use Rattle.equality.specs.Node.{Decisions, classOf}
 use Rattle.equality.specs.Search.{Tree, isMet, nodeCount, metDecisions, groupingBytes}
-use Rattle.equality.proofs.Small.{Small}
-use Rattle.equality.proofs.Opens.{allOpens}
+use Rattle.equality.specs.Opens.{Small, allOpens}
 use Rattle.classes.specs.declared.Classes.{Classes}
 use Rattle.classes.specs.Pairs.{Represents}
 use Rattle.node.specs.Scan.{Scannable}
-use Rattle.store.specs.Records.{records, encodeAll, recordLength, capacity}
-use Rattle.store.specs.Outcome.{Result, groupingAfter, storeAfter}
+use Rattle.outcome.specs.Nodes.{records}
+use Rattle.store.specs.Records.{encodeAll, recordLength, capacity}
+use Rattle.outcome.specs.Outcome.{Result, groupingAfter, storeAfter}
 use Rattle.search.specs.declared.SearchAnswer.{SearchAnswer}
 use Rattle.search.specs.Promises.{answerCase}
 use Rattle.search.specs.declared.Visited.{Visited}

@@ -10,7 +10,8 @@ use lib.Seq.{drop-cons}
 use Rattle.sheet.specs.Format.{lotCount, conditionCount, recordCount, headAt, signAt, firstLotAt, secondLotAt, nextAt}
 use Rattle.sheet.specs.Checks.{Accepted}
 use Rattle.sheet.specs.Conditions.{Term, same, apart, termAt, chain, recordsFrom, termsFrom, countUp, conditionAt, conditions}
-use Rattle.sheet.proofs.Ranges.{length-along, getD-along, All, all-along}
+use Rattle.sheet.proofs.Ranges.{length-along, getD-along, all-along}
+use Rattle.buffers.specs.Lists.{All}
 use Rattle.sheet.proofs.Accepted.{InLots, SoundRecord, sound}
 use Rattle.sheet.proofs.Reached.{linked}
 use Rattle.sheet.proofs.Records.{allRecords, records-length}

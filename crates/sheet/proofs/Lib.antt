@@ -12,11 +12,6 @@ pub mod ChainEnds
 pub mod Records
 pub mod Conditions
 pub mod Accepting
-pub mod CanonicalWithin
-pub mod CanonicalChains
-pub mod CanonicalBytes
-pub mod Canonical
 mod Tests
 mod Marks
 mod WalkLoops
-pub mod Lending

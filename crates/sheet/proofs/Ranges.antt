@@ -8,6 +8,7 @@ use lib.Dec.{eqb, leb}
 use lib.ListN.{length, getD, length-map}
 use borrow.Author.Tests.{eqb-true, eqb-false, ne-eqb, leb-true, leb-false}
 use Rattle.sheet.specs.Conditions.{countUp}
+use Rattle.buffers.specs.Lists.{All}
 use Rattle.sheet.proofs.Times.{bit, times, times-append}
 
 -- ---- the numbers from `from` on
@@ -45,11 +46,6 @@ range-times x (suc n) from low high = go (eqb x from) refl (λ l. range-times x 
     go false e ih = omega (arith, ih (omega (arith, eqb-false x from e)))
 
 -- ---- along a range
-
--- P holds of every element.
-abbrev pub All : {A : Type 0} → (A → Type 0) → List A → Type 0
-All P [] = Unit {0}
-All P (x ∷ xs) = P x × All P xs
 
 module _ {A : Type 0} (f : ℕ → A) where
   -- As many values as numbers.

@@ -2,7 +2,7 @@
 use Prim.Native.Nat.{ℕ, _+_, _*_, _-_}
 use mathlib.Core.List.{List}
 use lib.ListN.{getD}
-use Rattle.sheet.specs.Bytes.{number}
+use Rattle.buffers.specs.Bytes.{number}
 
 -- "lots n (at most 128), conditions m (at most 256), term records k (at most 1,024)"
 abbrev pub mostLots : ℕ

@@ -2,7 +2,7 @@
 ghost use mathlib.Core.Path.{_≡_};
 ghost use Prim.Native.Nat.{_+_, _*_, _≤_};
 ghost use lib.ListN.{length};
-ghost use Rattle.sheet.specs.Bytes.{number};
+ghost use Rattle.buffers.specs.Bytes.{number};
 ghost use Rattle.sheet.specs.Format.{recordPlace, headAt, spareAt, nextAt};
 ghost use Rattle.sheet.specs.Inner.{headerAt, termRecordAt, HasRecord};
 use crate::Condition;
@@ -11,23 +11,15 @@ use crate::Lot;
 use crate::Record;
 use crate::Term;
 
-// The two-byte number at a place, low byte first.
-pub fn number_at(s: &[u8], i: usize) -> u16
-    requires { ⌜ i + 2 ≤ length (now s) ⌝ }
-    ensures { λ r. ⌜ r ≡ number (now (s .entry)) i ⌝ }
-{
-    (s[i] as u16) + 256 * (s[i + 1] as u16)
-}
-
 // The counts of the header.
 pub fn header_of(sheet: &[u8]) -> Header
     requires { ⌜ 6 ≤ length (now sheet) ⌝ }
     ensures { λ h. ⌜ h ≡ headerAt (now (sheet .entry)) ⌝ }
 {
     Header {
-        lots: number_at(sheet, 0),
-        conditions: number_at(sheet, 2),
-        records: number_at(sheet, 4),
+        lots: buffers::number_at(sheet, 0),
+        conditions: buffers::number_at(sheet, 2),
+        records: buffers::number_at(sheet, 4),
     }
 }
 
@@ -37,7 +29,7 @@ pub fn head_at(sheet: &[u8], c: Condition) -> Record
     ensures { λ r. ⌜ r .0 ≡ headAt (now (sheet .entry)) (c .0) ⌝ }
 {
     let n = c.0 as usize;
-    Record(number_at(sheet, 6 + 2 * (n - 1)))
+    Record(buffers::number_at(sheet, 6 + 2 * (n - 1)))
 }
 
 // Where a record begins, after the header and m heads.
@@ -64,7 +56,7 @@ pub fn next_at(sheet: &[u8], m: u16, r: Record) -> Record
     ensures { λ n. ⌜ n .0 ≡ nextAt (now (sheet .entry)) (r .0) ⌝ }
 {
     let p = record_place(m, r);
-    Record(number_at(sheet, p + 6))
+    Record(buffers::number_at(sheet, p + 6))
 }
 
 // The term at a record.
@@ -75,8 +67,8 @@ pub fn term_at(sheet: &[u8], m: u16, r: Record) -> Term
     let p = record_place(m, r);
     Term {
         sign: sheet[p],
-        a: Lot(number_at(sheet, p + 2)),
-        b: Lot(number_at(sheet, p + 4)),
-        next: Record(number_at(sheet, p + 6)),
+        a: Lot(buffers::number_at(sheet, p + 2)),
+        b: Lot(buffers::number_at(sheet, p + 4)),
+        next: Record(buffers::number_at(sheet, p + 6)),
     }
 }

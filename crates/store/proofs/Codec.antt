@@ -1,16 +1,16 @@
 -- Node records and their bytes are one codec: what is encoded is decoded again, record by record.
-use Prim.Native.Nat.{ℕ, zero, suc, _+_, _*_, _-_, _/_, _%_, _<_}
+use Prim.Native.Nat.{ℕ, zero, suc, _+_, _*_, _-_, _/_, _<_}
 use mathlib.Core.List.{List, [], _∷_, _++_, map, append-nil, append-assoc}
 use mathlib.Core.Path.{_≡_, refl, sym, ap, _∙_}
-use native.Mathlib.Nat.{add-assoc}
 use native.Mathlib.Omega.{arith}
 use lib.ListN.{length, getD, length-append}
 use lib.Seq.{getD-append-add, ext-getD}
-use Rattle.sheet.specs.Bytes.{number, twoBytes}
+use Rattle.buffers.specs.Bytes.{number, twoBytes}
+use Rattle.buffers.proofs.Bytes.{low-high, byte-shift, number-shift}
 use Rattle.sheet.specs.Conditions.{countUp}
-use Rattle.sheet.proofs.Ranges.{All, length-along, getD-along}
-use Rattle.equality.specs.Search.{Tree, metLeaf, groundLeaf, oneBranch, twoBranches, nodeCount}
-use Rattle.store.specs.Records.{NodeRecord, splitRecord, groundRecord, metRecord, noRecord, records, recordLength, encode, ofKind, decode, recordAt, recordsOf, encodeAll}
+use Rattle.buffers.specs.Lists.{All}
+use Rattle.sheet.proofs.Ranges.{length-along, getD-along}
+use Rattle.store.specs.Records.{NodeRecord, splitRecord, groundRecord, metRecord, noRecord, recordLength, encode, ofKind, decode, recordAt, recordsOf, encodeAll, Fits}
 
 -- ---- lengths
 
@@ -33,29 +33,7 @@ encodeAll-append [] ys = refl
 encodeAll-append (x ∷ xs) ys =
     ap (λ (l : List ℕ). encode x ++ l) (encodeAll-append xs ys) ∙ sym (append-assoc (encode x) (encodeAll xs) (encodeAll ys))
 
--- A search writes as many records as it visits nodes.
-pub records-count : (at : ℕ) (t : Tree) → length (records at t) ≡ nodeCount t
-unfolding records nodeCount
-records-count at (metLeaf ds) = refl
-records-count at (groundLeaf c) = refl
-records-count at (oneBranch a b t) = omega (arith, records-count (at + 1) t)
-records-count at (twoBranches a b t u) =
-    omega (arith, length-append (records (at + 1) t) (records (at + 1 + nodeCount t) u), records-count (at + 1) t, records-count (at + 1 + nodeCount t) u)
-
-pub bytes-count : (at : ℕ) (t : Tree) → length (encodeAll (records at t)) ≡ recordLength * nodeCount t
-bytes-count at t = encodeAll-length (records at t) ∙ ap (λ (n : ℕ). recordLength * n) (records-count at t)
-
 -- ---- one record
-
--- The numbers of a record fit two bytes, and it is one of the three kinds.
-abbrev pub Fits : NodeRecord → Type 0
-Fits (splitRecord a b next) = (a < 65536) × (b < 65536) × (next < 65536)
-Fits (groundRecord c) = c < 65536
-Fits metRecord = Unit {0}
-Fits noRecord = ⊥
-
-low-high : (x : ℕ) → x < 65536 → x % 256 + 256 * (x / 256 % 256) ≡ x
-low-high x h = omega arith
 
 pub decode-encode : (r : NodeRecord) (rest : List ℕ) → Fits r → decode (encode r ++ rest) 0 ≡ r
 unfolding decode encode twoBytes number ofKind
@@ -67,18 +45,11 @@ decode-encode noRecord rest h = absurd h
 -- ---- all records
 
 module _ (p q : List ℕ) where
-  byte-shift : (i j : ℕ) → getD (p ++ q) (length p + i + j) 0 ≡ getD q (i + j) 0
-  byte-shift i j = rw (add-assoc (length p) i j) (getD-append-add p q (i + j) 0)
-
-  number-shift : (i j : ℕ) → number (p ++ q) (length p + i + j) ≡ number q (i + j)
-  unfolding number
-  number-shift i j = rw (byte-shift i j, add-assoc (length p + i) j 1, byte-shift i (j + 1), ← add-assoc i j 1)
-
   -- Bytes in front do not matter.
   pub decode-shift : (i : ℕ) → decode (p ++ q) (length p + i) ≡ decode q i
   unfolding decode
   decode-shift i =
-      rw (getD-append-add p q i 0, byte-shift i 1, number-shift i 2, number-shift i 4, number-shift i 6)
+      rw (getD-append-add p q i 0, byte-shift p q i 1, number-shift p q i 2, number-shift p q i 4, number-shift p q i 6)
 
 -- The record at a place, where the records' bytes come first.
 pub decode-at : (rs : List NodeRecord) → All Fits rs → (rest : List ℕ) (i : ℕ) → i < length rs

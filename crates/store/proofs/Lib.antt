@@ -1,4 +1,2 @@
 pub mod Codec
-pub mod Fitting
-pub mod Grouping
 pub mod Writes

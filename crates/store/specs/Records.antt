@@ -4,9 +4,8 @@ use mathlib.Core.Bool.{Bool, cond, _&&_}
 use mathlib.Core.List.{List, [], _∷_, _++_, map}
 use lib.Dec.{eqb}
 use lib.ListN.{length, getD}
-use Rattle.sheet.specs.Bytes.{number, twoBytes}
+use Rattle.buffers.specs.Bytes.{number, twoBytes, TwoBytes}
 use Rattle.sheet.specs.Conditions.{countUp}
-use Rattle.equality.specs.Search.{Tree, metLeaf, groundLeaf, oneBranch, twoBranches, nodeCount}
 
 -- "Kind 1 split: lots a and b. Kind 2 ground: the condition, then 0. Kind 3 met: 0, 0. Kind 0 and kinds 4 to 255 are none of these."
 -- A split has its next besides; "Grounds and met have next 0." Bytes that are none of the three are `noRecord`.
@@ -15,18 +14,6 @@ pub data NodeRecord : Type 0 where
   groundRecord : ℕ → NodeRecord
   metRecord : NodeRecord
   noRecord : NodeRecord
-
--- ---- the records of a search
-
--- (The same branch is document 01's equal branch, the apart branch its different branch.)
--- "In the list a split is followed by everything under its equal branch, then everything under its different branch; next is the record
--- where that second branch begins, zero if never visited.": the records of a tree whose first has the number `at`.
-unfoldable pub records : ℕ → Tree → List NodeRecord
-records at (metLeaf ds) = metRecord ∷ []
-records at (groundLeaf c) = groundRecord c ∷ []
-records at (oneBranch a b t) = splitRecord a b 0 ∷ records (at + 1) t
-records at (twoBranches a b t u) =
-    splitRecord a b (at + 1 + nodeCount t) ∷ records (at + 1) t ++ records (at + 1 + nodeCount t) u
 
 -- ---- a record's bytes
 
@@ -44,6 +31,13 @@ encode (splitRecord a b next) = fields 1 a b next
 encode (groundRecord c) = fields 2 c 0 0
 encode metRecord = fields 3 0 0 0
 encode noRecord = fields 0 0 0 0
+
+-- The numbers of a record fit two bytes, and it is one of the three kinds.
+abbrev pub Fits : NodeRecord → Type 0
+Fits (splitRecord a b next) = TwoBytes a × TwoBytes b × TwoBytes next
+Fits (groundRecord c) = TwoBytes c
+Fits metRecord = Unit {0}
+Fits noRecord = ⊥
 
 -- The record of these fields, where those that have to be 0 are.
 abbrev pub recordIf : Bool → NodeRecord → NodeRecord

@@ -4,7 +4,7 @@ ghost use mathlib.Core.List.{_++_};
 ghost use Prim.Native.Nat.{_+_, _*_, _-_, _≤_, _<_};
 ghost use lib.ListN.{length, drop, replicate};
 ghost use lib.Seq.{sets};
-ghost use Rattle.sheet.specs.Bytes.{twoBytes};
+ghost use Rattle.buffers.specs.Bytes.{twoBytes};
 ghost use Rattle.store.specs.Records.{recordLength, fields, encode, ofKind, recordAt, capacity};
 ghost use Rattle.store.specs.Code.{recordOf, FitsBytes, HasPlace};
 use sheet::Condition;
@@ -48,15 +48,6 @@ fn place_of(number: NodeNumber) -> usize
     RECORD_LENGTH * (n - 1)
 }
 
-// Writes a two-byte number, low byte first.
-fn put_number(store: &mut [u8], at: usize, x: u16)
-    requires { ⌜ at + 2 ≤ length (now store) ⌝ }
-    ensures { λ _. ⌜ now (store .exit) ≡ sets (now (store .entry)) at (twoBytes x) ⌝ }
-{
-    store[at] = (x % 256) as u8;
-    store[at + 1] = (x / 256) as u8;
-}
-
 // Writes the fields of a node record.
 fn put_fields(store: &mut [u8], number: NodeNumber, kind: u8, first: u16, second: u16, next: u16)
     requires { ⌜ HasPlace (now store) (number .0) ⌝ }
@@ -66,9 +57,9 @@ fn put_fields(store: &mut [u8], number: NodeNumber, kind: u8, first: u16, second
     let at = place_of(number);
     store[at] = kind;
     store[at + 1] = 0;
-    put_number(store, at + 2, first);
-    put_number(store, at + 4, second);
-    put_number(store, at + 6, next);
+    buffers::put_number(store, at + 2, first);
+    buffers::put_number(store, at + 4, second);
+    buffers::put_number(store, at + 6, next);
 }
 
 // Writes a node record.
@@ -92,7 +83,7 @@ pub fn set_next(store: &mut [u8], number: NodeNumber, next: NodeNumber)
         ≡ sets (now (store .entry)) (recordLength * (number .0 - 1) + 6) (twoBytes (next .0)) ⌝ }
 {
     let at = place_of(number);
-    put_number(store, at + 6, next.0 as u16);
+    buffers::put_number(store, at + 6, next.0 as u16);
 }
 
 // The node record of these fields, where those that have to be 0 are.
@@ -125,9 +116,9 @@ pub fn read(list: &[u8], number: NodeNumber) -> NodeRecord
     ensures { λ r. ⌜ recordOf r ≡ recordAt (now (list .entry)) (number .0) ⌝ }
 {
     let at = place_of(number);
-    let first = sheet::format::number_at(list, at + 2);
-    let second = sheet::format::number_at(list, at + 4);
-    let next = sheet::format::number_at(list, at + 6);
+    let first = buffers::number_at(list, at + 2);
+    let second = buffers::number_at(list, at + 4);
+    let next = buffers::number_at(list, at + 6);
     decode_fields(list[at], list[at + 1], first, second, next)
 }
 

@@ -8,7 +8,7 @@ use Rattle.sheet.specs.Conditions.{countUp}
 use Rattle.store.specs.Records.{NodeRecord, recordAt}
 use Rattle.text.specs.Lines.{line}
 use Rattle.text.specs.Program.{recordLine, recordLines}
-use Rattle.text.proofs.Writing.{Writing, start}
+use Rattle.buffers.proofs.Writing.{Writing, start}
 
 -- What follows a line's first field: the other fields, each after a space, and the line's end.
 abbrev pub after : List (List ℕ) → List ℕ

@@ -8,19 +8,20 @@ use lib.Seq.{drop-nil}
 use Rattle.sheet.specs.Format.{lotCount, conditionCount, recordCount}
 use Rattle.sheet.specs.Checks.{Accepted}
 use Rattle.sheet.specs.Conditions.{conditions}
-use Rattle.sheet.proofs.Ranges.{All}
+use Rattle.buffers.specs.Lists.{All}
 use Rattle.sheet.proofs.Accepted.{InLots, sound}
 use Rattle.equality.specs.Node.{Decisions}
 use Rattle.equality.proofs.Least.{least}
 use Rattle.equality.specs.Search.{nodeCount, searchTree, metDecisions, groupingBytes}
-use Rattle.store.specs.Records.{NodeRecord, splitRecord, groundRecord, metRecord, noRecord, records}
-use Rattle.store.specs.Outcome.{metResult, cannotResult}
-use Rattle.store.proofs.Codec.{Fits, records-count}
-use Rattle.store.proofs.Fitting.{search-fits}
-use Rattle.store.proofs.Grouping.{grouping-length, grouping-number}
+use Rattle.store.specs.Records.{NodeRecord, splitRecord, groundRecord, metRecord, noRecord, Fits}
+use Rattle.outcome.specs.Nodes.{records}
+use Rattle.outcome.specs.Outcome.{metResult, cannotResult}
+use Rattle.outcome.proofs.Fitting.{records-count, search-fits}
+use Rattle.outcome.proofs.Grouping.{grouping-length, grouping-number}
 use Rattle.text.specs.Lines.{decimal, line, lotsWord, conditionsWord, termsWord, splitWord, groundWord, metWord, cannotWord, refusedWord}
 use Rattle.text.specs.Program.{programCapacity, headerLine, recordLine, recordLines, refusedLine, metLine, cannotLine, resultText}
-use Rattle.text.specs.Code.{Printed, textRoom}
+use Rattle.buffers.specs.Written.{WroteFirst}
+use Rattle.text.specs.Code.{textRoom}
 use Rattle.text.proofs.Digits.{decimal-most}
 
 -- ---- a line
@@ -134,5 +135,5 @@ module _ (s : List ℕ) (ok : Accepted s) where
 -- ---- a printed text
 
 -- It stands whole in the buffer.
-pub printed-within : {before after : List ℕ} {count : ℕ} {text : List ℕ} → Printed before after count text → count ≤ length after
-printed-within {before} {text = text} p = omega (arith, p .counted, ap length (p .bytes), length-append text (drop (length text) before))
+pub printed-within : {before after : List ℕ} {count : ℕ} {text : List ℕ} → WroteFirst before after count text → count ≤ length after
+printed-within {before} {text = text} p = omega (arith, p .counted, ap length (p .front), length-append text (drop (length text) before))

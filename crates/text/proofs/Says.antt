@@ -15,11 +15,13 @@ use Rattle.sheet.proofs.Further.{further}
 use Rattle.sheet.proofs.Accepted.{sound}
 use Rattle.equality.specs.Search.{Tree, nodeCount, searchTree, metDecisions, groupingBytes}
 use Rattle.equality.specs.Evaluator.{check8, groupingVerdict}
-use Rattle.store.specs.Records.{records, encodeAll, mostNodes, capacity}
-use Rattle.store.specs.Outcome.{written, resultOf, metResult, cannotResult}
-use Rattle.store.proofs.Codec.{records-count, records-first}
-use Rattle.store.proofs.Fitting.{search-fits}
-use Rattle.store.proofs.Grouping.{grouping-length}
+use Rattle.outcome.specs.Nodes.{records}
+use Rattle.store.specs.Records.{encodeAll, mostNodes, capacity}
+use Rattle.buffers.specs.Written.{written}
+use Rattle.outcome.specs.Outcome.{resultOf, metResult, cannotResult}
+use Rattle.outcome.proofs.Fitting.{records-count, search-fits}
+use Rattle.store.proofs.Codec.{records-first}
+use Rattle.outcome.proofs.Grouping.{grouping-length}
 use Rattle.text.specs.Program.{mostInput, printed, programCapacity, resultText}
 use Rattle.text.specs.Code.{firstRecords, metText, cannotText}
 

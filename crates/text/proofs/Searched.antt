@@ -10,7 +10,7 @@ use Rattle.sheet.specs.Checks.{sheetVerdict}
 use Rattle.sheet.specs.Answers.{refused, answered}
 use Rattle.sheet.proofs.Accepted.{header-whole, sound}
 use Rattle.equality.specs.Search.{searchTree}
-use Rattle.store.specs.Outcome.{Result, Outcome, metResult, cannotResult, resultOf, outcomeOf, searchOutcome}
+use Rattle.outcome.specs.Outcome.{Result, Outcome, metResult, cannotResult, resultOf, outcomeOf, searchOutcome}
 use Rattle.text.specs.Program.{programCapacity, refusedLine, resultText, printed}
 use Rattle.text.specs.Code.{Printable, Lent, metText, cannotText, textRoom}
 use Rattle.text.proofs.Room.{met-most, cannot-most}

@@ -7,22 +7,12 @@ use lib.Seq.{sets}
 use Rattle.sheet.specs.Format.{mostLots, headerLength, lotCount}
 use Rattle.sheet.specs.Conditions.{countUp}
 use Rattle.store.specs.Records.{NodeRecord, recordAt, recordLength, capacity}
-use Rattle.store.specs.Outcome.{written}
+use Rattle.buffers.specs.Written.{written}
 use Rattle.text.specs.Program.{mostInput, programCapacity, headerLine, recordLines, metLine, cannotLine}
-
--- Of the buffer `before`, the bytes from place `at` on were overwritten with `bytes`, and no others; `next` is the place after them.
-pub record Wrote (before after : List ℕ) (at next : ℕ) (bytes : List ℕ) : Type 0 where
-  pub stored : after ≡ sets before at bytes
-  pub ended : next ≡ at + length bytes
 
 -- The first `count` records of a store.
 abbrev pub firstRecords : List ℕ → ℕ → List NodeRecord
 firstRecords store count = map (recordAt store) (countUp count 1)
-
--- The buffer `before` begins with `text` now, and its other bytes are untouched; `count` is the text's length.
-pub record Printed (before after : List ℕ) (count : ℕ) (text : List ℕ) : Type 0 where
-  pub bytes : after ≡ written text before
-  pub counted : count ≡ length text
 
 -- The text of a search that met the sheet, and of one that could not, from what it left in the grouping and in the store.
 abbrev pub metText : List ℕ → ℕ → List ℕ → List ℕ → List ℕ

@@ -6,8 +6,9 @@ use Rattle.sheet.specs.Format.{lotCount, conditionCount, recordCount}
 use Rattle.sheet.specs.Conditions.{conditions}
 use Rattle.sheet.specs.Checks.{sheetVerdict}
 use Rattle.equality.specs.Search.{searchTree, nodeCount, metDecisions, groupingBytes}
-use Rattle.store.specs.Records.{NodeRecord, splitRecord, groundRecord, metRecord, noRecord, records}
-use Rattle.store.specs.Outcome.{Result, refusedResult, fullResult, metResult, cannotResult, resultOf}
+use Rattle.store.specs.Records.{NodeRecord, splitRecord, groundRecord, metRecord, noRecord}
+use Rattle.outcome.specs.Nodes.{records}
+use Rattle.outcome.specs.Outcome.{Result, refusedResult, fullResult, metResult, cannotResult, resultOf}
 use Rattle.text.specs.Lines.{decimal, line, lotsWord, conditionsWord, termsWord, splitWord, groundWord, metWord, cannotWord, refusedWord}
 
 -- "It reads a sheet from standard input, at most 8,711 bytes (one more than the longest sheet), with 7,000 store records."

@@ -6,7 +6,8 @@ mod texts; // texts.rt: the whole texts
 ghost use Prim.Native.Nat.{_≤_};
 ghost use lib.ListN.{length};
 ghost use Rattle.text.specs.Program.{printed};
-ghost use Rattle.text.specs.Code.{Printed, Lent, textRoom};
+ghost use Rattle.buffers.specs.Written.{WroteFirst};
+ghost use Rattle.text.specs.Code.{Lent, textRoom};
 use search::SearchAnswer;
 use texts::cannot_text;
 use texts::met_text;
@@ -27,7 +28,7 @@ const STORE_ROOM: usize = 56000;
 // The search of a sheet in lent buffers, whatever they hold, and its text.
 fn print_search(sheet: &[u8], grouping: &mut [u8], store: &mut [u8], out: &mut [u8]) -> usize
     requires { ⌜ Lent (now sheet) (now grouping) (now store) × (textRoom ≤ length (now out)) ⌝ }
-    ensures { λ r. ⌜ Printed (now (out .entry)) (now (out .exit)) r (printed (now (sheet .entry))) ⌝ }
+    ensures { λ r. ⌜ WroteFirst (now (out .entry)) (now (out .exit)) r (printed (now (sheet .entry))) ⌝ }
 {
     let answer = search::search(sheet, grouping, store);
     match answer {
@@ -40,7 +41,7 @@ fn print_search(sheet: &[u8], grouping: &mut [u8], store: &mut [u8], out: &mut [
 
 // The text of the search of an input's sheet, written at the front of `out`; its length.
 pub fn print(input: &[u8], out: &mut [u8; TEXT_ROOM]) -> usize
-    ensures { λ r. ⌜ Printed (now (out .entry)) (now (out .exit)) r (printed (now (input .entry))) ⌝ }
+    ensures { λ r. ⌜ WroteFirst (now (out .entry)) (now (out .exit)) r (printed (now (input .entry))) ⌝ }
 {
     let mut grouping = [0u8; GROUPING_ROOM];
     let mut store = [0u8; STORE_ROOM];

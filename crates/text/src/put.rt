@@ -3,7 +3,7 @@ ghost use mathlib.Core.List.{[], _∷_};
 ghost use Prim.Native.Nat.{_+_, _≤_, _<_};
 ghost use lib.ListN.{length};
 ghost use Rattle.text.specs.Lines.{decimal};
-ghost use Rattle.text.specs.Code.{Wrote};
+ghost use Rattle.buffers.specs.Written.{Wrote};
 
 // Writes one byte.
 pub fn put_byte(out: &mut [u8], at: usize, byte: u8) -> usize

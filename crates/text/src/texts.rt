@@ -3,7 +3,8 @@ ghost use Prim.Native.Nat.{_≤_};
 ghost use lib.ListN.{length};
 ghost use Rattle.sheet.specs.Format.{lotCount};
 ghost use Rattle.text.specs.Program.{refusedLine};
-ghost use Rattle.text.specs.Code.{Printed, Printable, metText, cannotText, textRoom};
+ghost use Rattle.buffers.specs.Written.{WroteFirst};
+ghost use Rattle.text.specs.Code.{Printable, metText, cannotText, textRoom};
 use crate::lines::header_line;
 use crate::lines::met_line;
 use crate::lines::number_line;
@@ -14,7 +15,7 @@ use crate::lines::refused_line;
 pub fn met_text(out: &mut [u8], sheet: &[u8], count: u32, grouping: &[u8], store: &[u8]) -> usize
     requires { ⌜ Printable (now sheet) count (now store) × (lotCount (now sheet) ≤ length (now grouping))
         × (length (metText (now sheet) count (now grouping) (now store)) ≤ length (now out)) ⌝ }
-    ensures { λ r. ⌜ Printed (now (out .entry)) (now (out .exit)) r
+    ensures { λ r. ⌜ WroteFirst (now (out .entry)) (now (out .exit)) r
         (metText (now (sheet .entry)) count (now (grouping .entry)) (now (store .entry))) ⌝ }
 {
     let h = sheet::format::header_of(sheet);
@@ -28,7 +29,7 @@ pub fn met_text(out: &mut [u8], sheet: &[u8], count: u32, grouping: &[u8], store
 pub fn cannot_text(out: &mut [u8], sheet: &[u8], count: u32, store: &[u8]) -> usize
     requires { ⌜ Printable (now sheet) count (now store)
         × (length (cannotText (now sheet) count (now store)) ≤ length (now out)) ⌝ }
-    ensures { λ r. ⌜ Printed (now (out .entry)) (now (out .exit)) r
+    ensures { λ r. ⌜ WroteFirst (now (out .entry)) (now (out .exit)) r
         (cannotText (now (sheet .entry)) count (now (store .entry))) ⌝ }
 {
     let mut next = header_line(out, 0, sheet);
@@ -39,7 +40,7 @@ pub fn cannot_text(out: &mut [u8], sheet: &[u8], count: u32, store: &[u8]) -> us
 // The text of a refusal, by a check or by a full store.
 pub fn refused_text(out: &mut [u8], check: u32, place: u32) -> usize
     requires { ⌜ textRoom ≤ length (now out) ⌝ }
-    ensures { λ r. ⌜ Printed (now (out .entry)) (now (out .exit)) r (refusedLine check place) ⌝ }
+    ensures { λ r. ⌜ WroteFirst (now (out .entry)) (now (out .exit)) r (refusedLine check place) ⌝ }
 {
     refused_line(out, 0, check, place)
 }

@@ -52,7 +52,7 @@ use Rattle.sheet.proofs.Record as N
 use Rattle.sheet.proofs.Record.Laws as N′
 use Rattle.sheet.proofs.Term as S
 use Rattle.sheet.proofs.Term.Laws as S′
-use Rattle.sheet.proofs.Lending.{lies-in, lies-out, LenderHas, bounds-hold, lends-local, local-back}
+use Rattle.buffers.proofs.Lending.{lies-in, lies-out, LenderHas, bounds-hold, lends-local, local-back}
 use Rattle.chain.proofs.advance as advance
 use Rattle.chain.proofs.advance.Symbol as advance-def
 use Rattle.chain.proofs.advance.Symbol.{name as #chain·advance}

@@ -48,7 +48,7 @@ use Rattle.path.specs.declared.Path.{Path}
 use Rattle.path.proofs.Path as T
 use Rattle.path.proofs.Path.Laws as T′
 use Rattle.path.proofs.Splits.{path-top}
-use Rattle.sheet.proofs.Lending.{lies-in, lies-out, LenderHas, bounds-hold, lends-local, local-back, claims, more, one}
+use Rattle.buffers.proofs.Lending.{lies-in, lies-out, LenderHas, bounds-hold, lends-local, local-back, claims, more, one}
 use Rattle.path.proofs.drop_split as drop-split
 use Rattle.path.proofs.drop_split.Symbol as drop-split-def
 use Rattle.path.proofs.drop_split.Symbol.{name as #path·drop-split}

@@ -51,7 +51,7 @@ use Rattle.path.proofs.Path.Laws as T′
 use Rattle.path.proofs.Split as S
 use Rattle.path.proofs.Split.Laws as S′
 use Rattle.path.proofs.Splits.{path-pushed}
-use Rattle.sheet.proofs.Lending.{lies-in, lies-out, LenderHas, bounds-hold, lends-local, local-back, claims, more, one}
+use Rattle.buffers.proofs.Lending.{lies-in, lies-out, LenderHas, bounds-hold, lends-local, local-back, claims, more, one}
 use Rattle.path.proofs.push_split as push-split
 use Rattle.path.proofs.push_split.Symbol as push-split-def
 use Rattle.path.proofs.push_split.Symbol.{name as #path·push-split}

@@ -52,7 +52,7 @@ use Rattle.path.proofs.Path as T
 use Rattle.path.proofs.Path.Laws as T′
 use Rattle.path.proofs.Split as S
 use Rattle.path.proofs.Split.Laws as S′
-use Rattle.sheet.proofs.Lending.{LentAgain, lends-again, comes-back}
+use Rattle.buffers.proofs.Lending.{LentAgain, lends-again, comes-back}
 use Rattle.path.proofs.push_at as push-at
 use Rattle.path.proofs.push_at.Symbol as push-at-def
 use Rattle.path.proofs.push_at.Symbol.{name as #path·push-at}

@@ -47,7 +47,7 @@ use Rattle.path.specs.declared.Path.{Path}
 use Rattle.path.proofs.Path as T
 use Rattle.path.proofs.Path.Laws as T′
 use Rattle.path.proofs.Splits.{path-turned}
-use Rattle.sheet.proofs.Lending.{lies-in, lies-out, LenderHas, bounds-hold, lends-local, local-back}
+use Rattle.buffers.proofs.Lending.{lies-in, lies-out, LenderHas, bounds-hold, lends-local, local-back}
 use Rattle.path.proofs.turn_split as turn-split
 use Rattle.path.proofs.turn_split.Symbol as turn-split-def
 use Rattle.path.proofs.turn_split.Symbol.{name as #path·turn-split}

@@ -48,7 +48,7 @@ use Rattle.path.specs.Paths.{splitLength, turnedAt}
 use Rattle.path.specs.declared.Path.{Path}
 use Rattle.path.proofs.Path as T
 use Rattle.path.proofs.Path.Laws as T′
-use Rattle.sheet.proofs.Lending.{LentAgain, lends-again, comes-back}
+use Rattle.buffers.proofs.Lending.{LentAgain, lends-again, comes-back}
 use Rattle.path.proofs.turn_at as turn-at
 use Rattle.path.proofs.turn_at.Symbol as turn-at-def
 use Rattle.path.proofs.turn_at.Symbol.{name as #path·turn-at}

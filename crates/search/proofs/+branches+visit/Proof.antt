@@ -9,17 +9,18 @@ use mathlib.Core.Path.{_≡_, refl, sym, ap, subst, _∙_}
 use native.Mathlib.Omega.{arith}
 use lib.ListN.{length, take, drop}
 use lib.Seq.{sets}
-use Rattle.sheet.specs.Bytes.{twoBytes}
+use Rattle.buffers.specs.Bytes.{twoBytes}
 use Rattle.sheet.specs.Conditions.{same, apart, conditions}
 use Rattle.equality.specs.Node.{Decisions, split, node}
 use Rattle.equality.specs.Search.{nodeRule, Tree, groupingBytes}
-use Rattle.equality.proofs.Visits.{Visits, met-tree, ground-tree, split-tree}
+use Rattle.equality.specs.Visits.{Visits}
+use Rattle.equality.proofs.Visits.{met-tree, ground-tree, split-tree}
 use Rattle.store.specs.Records.{recordLength, splitRecord, groundRecord, metRecord, encode, capacity}
 use Rattle.node.specs.declared.Node as declared
 use Rattle.node.specs.Resume.{nodeAs, Resumes, SplitLeaves, Leaves}
 use Rattle.node.specs.Settled.{Marked, Later}
 use Rattle.node.proofs.Settling.{later-none, later-through, later-above, restored-marked, restored-later}
-use Rattle.store.proofs.Fitting.{node-count}
+use Rattle.outcome.proofs.Fitting.{node-count}
 use Rattle.search.specs.Visited.{Standing, Explored}
 use Rattle.search.proofs.Exploring.{none-explored, met-explored, ground-explored}
 use Rattle.search.proofs.Splitting.{split-met, split-full, split-over, split-apart}

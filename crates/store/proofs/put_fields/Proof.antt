@@ -6,7 +6,7 @@ use native.Mathlib.Omega.{arith}
 use borrow.Author.Needs.{needs}
 use lib.ListN.{length, length-set}
 use lib.Seq.{sets}
-use Rattle.sheet.specs.Bytes.{twoBytes}
+use Rattle.buffers.specs.Bytes.{twoBytes}
 use Rattle.store.specs.Records.{fields}
 use Rattle.store.proofs.Writes.{fields-stored}
 use Rattle.store.proofs.put_fields.Statement.{statement}

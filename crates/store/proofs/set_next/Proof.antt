@@ -3,7 +3,7 @@ use Prim.Native.Nat.{ℕ, _+_}
 use mathlib.Core.Path.{ap, _∙_}
 use borrow.Author.Needs.{needs}
 use lib.Seq.{sets}
-use Rattle.sheet.specs.Bytes.{twoBytes}
+use Rattle.buffers.specs.Bytes.{twoBytes}
 use Rattle.store.proofs.set_next.Statement.{statement}
 use Rattle.store.proofs.set_next.Tie as tie
 

@@ -4,10 +4,10 @@ use Prim.Native.Nat.{ℕ}
 use mathlib.Core.List.{List}
 use mathlib.Core.Path.{_≡_, ap, sym, subst, _∙_}
 use native.Mathlib.Omega.{arith}
-use Rattle.store.specs.Outcome.{searchOutcome}
+use Rattle.outcome.specs.Outcome.{searchOutcome}
 use Rattle.search.specs.Answers.{searchAnswer}
 use Rattle.search.specs.declared.SearchAnswer.{SearchAnswer}
-use Rattle.text.specs.Code.{Printed}
+use Rattle.buffers.specs.Written.{WroteFirst}
 use Rattle.text.proofs.Searched.{refused-printed, printable, lots-grouped, met-printed, met-room, cannot-printed, cannot-room}
 use Rattle.text.proofs.print_search.Statement.{statement}
 use Rattle.text.proofs.print_search.Tie as tie
@@ -31,8 +31,8 @@ said : (c : tie.After-search) {answer : SearchAnswer} → c .search .result ≡ 
 said c e = ap searchAnswer (sym e) ∙ c .search .ensures .1 .0
 
 -- A printed text, under another name.
-reading : {before after : List ℕ} {count : ℕ} {text text′ : List ℕ} → text ≡ text′ → Printed before after count text → Printed before after count text′
-reading {before} {after} {count} e p = subst (λ (t : List ℕ). Printed before after count t) e p
+reading : {before after : List ℕ} {count : ℕ} {text text′ : List ℕ} → text ≡ text′ → WroteFirst before after count text → WroteFirst before after count text′
+reading {before} {after} {count} e p = subst (λ (t : List ℕ). WroteFirst before after count t) e p
 
 search-requires : tie.Need-search-requires
 search-requires c κs = search needs

@@ -10,7 +10,7 @@ use Rattle.sheet.specs.Inner.{headerAt}
 use Rattle.text.specs.Lines.{decimal, line, lotsWord, conditionsWord, termsWord}
 use Rattle.text.specs.Program.{headerLine}
 use Rattle.text.proofs.Fields.{after, start-line}
-use Rattle.text.proofs.Writing.{Writing, room-left, room, then, last}
+use Rattle.buffers.proofs.Writing.{Writing, room-left, room, then, last}
 use borrow.Author.Needs.{needs}
 use Rattle.text.proofs.lines.header_line.Statement.{statement}
 use Rattle.text.proofs.lines.header_line.Tie as tie

@@ -10,7 +10,7 @@ use lib.Seq.{slice, slice-cons, slice-empty}
 use Rattle.text.specs.Lines.{decimal, line, metWord}
 use Rattle.text.specs.Program.{metLine}
 use Rattle.text.proofs.Fields.{after, start-line}
-use Rattle.text.proofs.Writing.{Writing, start, room-left, room, then, last}
+use Rattle.buffers.proofs.Writing.{Writing, start, room-left, room, then, last}
 use borrow.Author.Needs.{needs}
 use Rattle.text.proofs.lines.met_line.Statement.{statement}
 use Rattle.text.proofs.lines.met_line.Tie as tie

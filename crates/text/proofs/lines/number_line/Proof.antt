@@ -5,7 +5,7 @@ use native.Mathlib.Omega.{arith}
 use lib.ListN.{drop}
 use Rattle.text.specs.Lines.{decimal, line}
 use Rattle.text.proofs.Fields.{after, start-line}
-use Rattle.text.proofs.Writing.{Writing, room-left, room, then, last}
+use Rattle.buffers.proofs.Writing.{Writing, room-left, room, then, last}
 use borrow.Author.Needs.{needs}
 use Rattle.text.proofs.lines.number_line.Statement.{statement}
 use Rattle.text.proofs.lines.number_line.Tie as tie

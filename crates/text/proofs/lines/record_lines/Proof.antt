@@ -9,7 +9,7 @@ use Rattle.store.specs.Records.{recordAt}
 use Rattle.text.specs.Program.{recordLine, recordLines}
 use Rattle.text.specs.Code.{firstRecords}
 use Rattle.text.proofs.Fields.{after, recordsLeft, lines-step, lines-end}
-use Rattle.text.proofs.Writing.{Writing, start, room, then, whole}
+use Rattle.buffers.proofs.Writing.{Writing, start, room, then, whole}
 use borrow.Author.Needs.{needs}
 use Rattle.text.proofs.lines.record_lines.Statement.{statement}
 use Rattle.text.proofs.lines.record_lines.Tie as tie

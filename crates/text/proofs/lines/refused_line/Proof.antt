@@ -7,7 +7,7 @@ use lib.ListN.{drop}
 use Rattle.text.specs.Lines.{decimal, line, refusedWord}
 use Rattle.text.specs.Program.{refusedLine}
 use Rattle.text.proofs.Fields.{after, start-line}
-use Rattle.text.proofs.Writing.{Writing, room-left, room, then, last}
+use Rattle.buffers.proofs.Writing.{Writing, room-left, room, then, last}
 use borrow.Author.Needs.{needs}
 use Rattle.text.proofs.lines.refused_line.Statement.{statement}
 use Rattle.text.proofs.lines.refused_line.Tie as tie

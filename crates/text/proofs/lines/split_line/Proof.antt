@@ -8,7 +8,7 @@ use Rattle.store.specs.Records.{splitRecord}
 use Rattle.text.specs.Lines.{decimal, line, splitWord}
 use Rattle.text.specs.Program.{recordLine}
 use Rattle.text.proofs.Fields.{after, start-line}
-use Rattle.text.proofs.Writing.{Writing, room-left, room, then, last}
+use Rattle.buffers.proofs.Writing.{Writing, room-left, room, then, last}
 use borrow.Author.Needs.{needs}
 use Rattle.text.proofs.lines.split_line.Statement.{statement}
 use Rattle.text.proofs.lines.split_line.Tie as tie

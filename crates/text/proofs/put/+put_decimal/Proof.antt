@@ -8,7 +8,7 @@ use native.Mathlib.Omega.{arith}
 use lib.ListN.{length, length-append}
 use Rattle.text.specs.Lines.{decimal}
 use Rattle.text.proofs.Digits.{decimal-one, decimal-more}
-use Rattle.text.proofs.Writing.{start, then, whole}
+use Rattle.buffers.proofs.Writing.{start, then, whole}
 use borrow.Fn.Kinds.{In}
 use borrow.Fn.PlainCycle.{Measures, is, falls, and}
 use Rattle.text.proofs.put.put_decimal.Reads as put-decimal

@@ -1,6 +1,6 @@
 -- `put::put_field` meets its contract: the space, and then the number.
 use Rattle.text.specs.Lines.{decimal}
-use Rattle.text.proofs.Writing.{start, then, last}
+use Rattle.buffers.proofs.Writing.{start, then, last}
 use borrow.Author.Needs.{needs}
 use Rattle.text.proofs.put.put_field.Statement.{statement}
 use Rattle.text.proofs.put.put_field.Tie as tie

@@ -9,7 +9,7 @@ use native.Mathlib.Omega.{arith}
 use borrow.Author.Needs.{needs}
 use lib.ListN.{length, drop, getD}
 use lib.Seq.{drop-cons, drop-length}
-use Rattle.text.proofs.Writing.{Writing, one, start, then, whole}
+use Rattle.buffers.proofs.Writing.{Writing, one, start, then, whole}
 use Rattle.text.proofs.put.put_word.Statement.{statement}
 use Rattle.text.proofs.put.put_word.Tie as tie
 

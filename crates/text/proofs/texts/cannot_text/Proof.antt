@@ -7,7 +7,7 @@ use lib.ListN.{length}
 use Rattle.text.specs.Lines.{line}
 use Rattle.text.specs.Program.{headerLine, recordLines, cannotLine}
 use Rattle.text.specs.Code.{firstRecords, cannotText}
-use Rattle.text.proofs.Writing.{Writing, start-three, room-left, room, then, last, printed}
+use Rattle.buffers.proofs.Writing.{Writing, start-three, room-left, room, then, last, wrote-first}
 use borrow.Author.Needs.{needs}
 use Rattle.text.proofs.texts.cannot_text.Statement.{statement}
 use Rattle.text.proofs.texts.cannot_text.Tie as tie
@@ -64,7 +64,7 @@ unfolding cannotLine
 returns c =
     let end = c .before .before in
     let records = end .before .before .before .before .before in
-    printed (last (end .number-line .ensures) (recorded records)) (begin (records .before .before .before .before) .pre .1)
+    wrote-first (last (end .number-line .ensures) (recorded records)) (begin (records .before .before .before .before) .pre .1)
 
 pub cannot-text-spec : {M : Type 1} → statement M
 cannot-text-spec =

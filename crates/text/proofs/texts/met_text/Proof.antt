@@ -9,7 +9,7 @@ use Rattle.sheet.specs.declared.Header.{Header}
 use Rattle.text.specs.Lines.{line}
 use Rattle.text.specs.Program.{headerLine, recordLines, metLine}
 use Rattle.text.specs.Code.{firstRecords, metText}
-use Rattle.text.proofs.Writing.{Writing, start-three, room-left, room, then, last, printed}
+use Rattle.buffers.proofs.Writing.{Writing, start-three, room-left, room, then, last, wrote-first}
 use borrow.Author.Needs.{needs}
 use Rattle.text.proofs.texts.met_text.Statement.{statement}
 use Rattle.text.proofs.texts.met_text.Tie as tie
@@ -75,7 +75,7 @@ returns c =
     let end = c .before .before in
     let records = end .before .before .before .before in
     let head = records .before .before .before .before in
-    printed (last (rw (counted head) at (end .met-line .ensures)) (recorded records)) (begin head .pre .2)
+    wrote-first (last (rw (counted head) at (end .met-line .ensures)) (recorded records)) (begin head .pre .2)
 
 pub met-text-spec : {M : Type 1} → statement M
 met-text-spec =

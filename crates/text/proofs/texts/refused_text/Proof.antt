@@ -1,6 +1,6 @@
 -- `texts::refused_text` meets its contract: a refusal of any two numbers has room.
 use native.Mathlib.Omega.{arith}
-use Rattle.text.proofs.Writing.{room, printed}
+use Rattle.buffers.proofs.Writing.{room, wrote-first}
 use Rattle.text.proofs.Room.{refused-most}
 use borrow.Author.Needs.{needs}
 use Rattle.text.proofs.texts.refused_text.Statement.{statement}
@@ -18,7 +18,7 @@ returns : tie.Need-returns
 returns c =
     let call = c .before .before in
     let begin = call .before .before .before in
-    printed (call .refused-line .ensures)
+    wrote-first (call .refused-line .ensures)
     (omega (arith, begin .pre, refused-most (begin .args .check) (begin .args .place) (omega (arith, begin .fits .check)) (omega (arith, begin .fits .place))))
 
 pub refused-text-spec : {M : Type 1} → statement M

@@ -15,21 +15,25 @@ use Rattle.sheet.specs.Checks.{Accepted, orElse, refusesIf, firstRefusal, lotIn
 use Rattle.sheet.proofs.Verdicts.{passes-firstRefusal}
 use Rattle.sheet.proofs.Further.{further-accepted}
 use Rattle.sheet.specs.Conditions.{Term, same, apart, conditions}
-use Rattle.sheet.proofs.Ranges.{All}
+use Rattle.buffers.specs.Lists.{All}
 use Rattle.sheet.proofs.Accepted.{InLots}
 use Rattle.sheet.proofs.Conditions.{TermIn, conditions-length, conditions-in}
 use Rattle.equality.specs.Node.{Decisions, value, trueOrOpenApart}
 use Rattle.equality.specs.Search.{nodeRule, Tree, isMet, nodeCount, depth, searchTree}
 use Rattle.equality.proofs.Some.{none-too}
-use Rattle.equality.proofs.Small.{Small, all-map, conditions-small}
+use Rattle.equality.specs.Opens.{Small}
+use Rattle.buffers.proofs.Lists.{all-map, all-at}
+use Rattle.equality.proofs.Small.{conditions-small}
 use Rattle.equality.proofs.Rule.{TakenAt, GroundAt, SplitAt, ground-at, ground-false, split-at}
-use Rattle.equality.proofs.Opens.{all-at, pair-small}
-use Rattle.equality.proofs.Visits.{Visits, visits-met, visits-ground, visits-one, visits-two, search-visits}
+use Rattle.equality.proofs.Opens.{pair-small}
+use Rattle.equality.specs.Visits.{Visits, visits-met, visits-ground, visits-one, visits-two}
+use Rattle.equality.proofs.Visits.{search-visits}
 use Rattle.equality.proofs.Sheets.{sheet-depth}
-use Rattle.store.specs.Records.{NodeRecord, records, encodeAll, recordLength, mostNodes}
-use Rattle.store.proofs.Codec.{bytes-count, records-of}
-use Rattle.store.proofs.Fitting.{node-count, search-fits}
+use Rattle.store.specs.Records.{NodeRecord, encodeAll, recordLength, mostNodes}
+use Rattle.outcome.specs.Nodes.{records}
+use Rattle.outcome.proofs.Fitting.{bytes-count, node-count, search-fits}
+use Rattle.store.proofs.Codec.{records-of}
 use Rattle.refutation.specs.Refutation.{mostSplits, Split, decisionsOf, notFalse, groundFails, nearest, turned, afterGround, named, conditionInRange, walkFrom, check10, walkVerdict, listVerdict, Refutes}
 
 in-lots : (n lot : ℕ) → InLots n lot → lotInRange n lot ≡ true
 in-lots n lot h = simp (le-leb 1 lot (h .low), le-leb lot n (h .high))

@@ -19,7 +19,7 @@ use Rattle.equality.proofs.Classes.{classes-length}
 use Rattle.equality.proofs.Right.{search-met}
 use Rattle.equality.proofs.Evaluator.{lowest-met, evaluator-zero}
 use Rattle.equality.proofs.Agree.{lowest-agrees}
-use Rattle.store.specs.Outcome.{written}
+use Rattle.buffers.specs.Written.{written}
 
 pub grouping-length : (n : ℕ) (ds : Decisions) → n ≤ mostLots → length (groupingBytes n ds) ≡ n
 unfolding groupingBytes

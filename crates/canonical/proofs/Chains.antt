@@ -8,14 +8,14 @@ use native.Mathlib.Omega.{arith}
 use lib.Dec.{eqb, leb}
 use lib.ListN.{length, length-append}
 use borrow.Author.Tests.{eqb-true, eqb-false, ne-eqb, leb-true, leb-false}
 use Rattle.sheet.specs.Format.{lotCount, conditionCount, recordCount, headAt, signAt, spareAt, firstLotAt, secondLotAt, nextAt}
 use Rattle.sheet.specs.Inner.{headerAt, HasHeader}
 use Rattle.sheet.specs.Checks.{Accepted, reached, member, walkChain, walkChains, walked}
 use Rattle.sheet.specs.Conditions.{Term, same, apart, termAt, chain, recordsFrom, termsFrom, countUp, conditionAt, conditions}
-use Rattle.sheet.specs.Canonical.{signOf, firstLot, secondLot, firstRecord, TermWithin}
-use Rattle.sheet.proofs.Ranges.{All}
+use Rattle.canonical.specs.Canonical.{signOf, firstLot, secondLot, firstRecord, TermWithin}
+use Rattle.buffers.specs.Lists.{All}
 use Rattle.sheet.proofs.Accepted.{SoundRecord}
 use Rattle.sheet.proofs.Accepting.{accepted}
 
 -- ---- what is laid
 

@@ -3,9 +3,9 @@
 use Prim.Native.Nat.{ℕ, suc, _+_, _≤_}
 use mathlib.Core.List.{List, [], _∷_, _++_, flatten, List·Memᴰ}
 use lib.ListN.{length}
-use Rattle.sheet.specs.Bytes.{twoBytes}
+use Rattle.buffers.specs.Bytes.{twoBytes}
 use Rattle.sheet.specs.Format.{mostLots, mostConditions, mostRecords, lowestLot, sheetLength}
 use Rattle.sheet.specs.Conditions.{Term, same, apart}
 
 -- ---- one record
 

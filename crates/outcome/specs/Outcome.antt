@@ -2,9 +2,10 @@
 -- "The node store", second part, and checks 1 to 9 of its table).
 use Prim.Native.Nat.{ℕ, _*_}
 use mathlib.Core.Bool.{Bool, true, false}
-use mathlib.Core.List.{List, _++_}
+use mathlib.Core.List.{List}
 use lib.Dec.{ltb}
-use lib.ListN.{length, drop, replicate}
+use lib.ListN.{replicate}
+use Rattle.buffers.specs.Written.{written}
 use Rattle.sheet.specs.declared.Verdict.{Verdict}
 use Rattle.sheet.specs.declared.Verdict.the-variants.{Passes, Refuses}
 use Rattle.sheet.specs.Format.{lotCount}
@@ -12,7 +13,8 @@ use Rattle.sheet.specs.Conditions.{conditions}
 use Rattle.sheet.specs.Answers.{Answer, refused, answered}
 use Rattle.equality.specs.Search.{Tree, searchTree, isMet, nodeCount, metDecisions, groupingBytes}
 use Rattle.equality.specs.Evaluator.{groupingVerdict}
-use Rattle.store.specs.Records.{records, encodeAll, recordLength, capacity}
+use Rattle.outcome.specs.Nodes.{records}
+use Rattle.store.specs.Records.{encodeAll, recordLength, capacity}
 
 -- What a search comes to, before any buffer is looked at.
 pub data Result : Type 0 where
@@ -47,10 +49,6 @@ resultAnswer (metResult tree) = answered 1 (nodeCount tree) 0
 resultAnswer (cannotResult tree) = answered 2 (nodeCount tree) 0
 
 -- ---- the buffers
-
--- A buffer whose first bytes are written, and whose others are untouched.
-abbrev pub written : List ℕ → List ℕ → List ℕ
-written bytes buffer = bytes ++ drop (length bytes) buffer
 
 -- "the grouping only on met (its first n bytes)"
 abbrev pub groupingAfter : ℕ → Result → List ℕ → List ℕ

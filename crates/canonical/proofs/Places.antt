@@ -5,12 +5,13 @@ use mathlib.Core.Path.{_≡_, refl, sym, _∙_}
 use native.Mathlib.Omega.{arith}
 use lib.ListN.{length, getD, drop, length-append}
 use lib.Seq.{drop-drop, drop-append-seam, getD-drop}
-use Rattle.sheet.specs.Bytes.{number, twoBytes}
+use Rattle.buffers.specs.Bytes.{number, twoBytes}
+use Rattle.buffers.proofs.Bytes.{two-bytes}
 use Rattle.sheet.specs.Format.{mostLots, mostRecords, headerLength, conditionCount, recordPlace, headAt, signAt, spareAt, firstLotAt, secondLotAt, nextAt}
 use Rattle.sheet.specs.Conditions.{Term}
-use Rattle.sheet.specs.Canonical.{termRecord, firstRecord, chainRecords, sheetRecords, headsFrom, TermWithin}
-use Rattle.sheet.proofs.Ranges.{All}
-use Rattle.sheet.proofs.CanonicalChains.{RecordIs, Runs, Laid, first-within, terms-cons}
+use Rattle.canonical.specs.Canonical.{termRecord, firstRecord, chainRecords, sheetRecords, headsFrom, TermWithin}
+use Rattle.buffers.specs.Lists.{All}
+use Rattle.canonical.proofs.Chains.{RecordIs, Runs, Laid, first-within, terms-cons}
 
 -- ---- how many
 
@@ -32,11 +33,6 @@ length-heads r [] = refl
 length-heads r (ts ∷ tss) = omega (arith, length-heads (r + length ts) tss)
 
 -- ---- from a place on
-
--- The two bytes of a number give that number.
-pub two-bytes : (x : ℕ) (rest : List ℕ) → x < 65536 → number (twoBytes x ++ rest) 0 ≡ x
-unfolding number twoBytes
-two-bytes x rest h = omega arith
 
 -- Where from place i on the bytes s are l:
 module _ (s : List ℕ) (i : ℕ) {l : List ℕ} (from : drop i s ≡ l) where

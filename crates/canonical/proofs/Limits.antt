@@ -1,29 +1,16 @@
 -- What a sheet can say: `Within` over lists, and that every accepted sheet says such.
 use Prim.Native.Nat.{ℕ, _≤_}
-use mathlib.Core.List.{List, [], _∷_, flatten, List·Memᴰ, List·Memᴰ·head, List·Memᴰ·tail}
-use mathlib.Core.Path.{refl, sym, subst}
+use mathlib.Core.List.{List, flatten}
 use native.Mathlib.Omega.{arith}
 use lib.ListN.{length}
 use Rattle.sheet.specs.Format.{mostLots, mostConditions, mostRecords, lotCount}
 use Rattle.sheet.specs.Checks.{Accepted}
 use Rattle.sheet.specs.Conditions.{Term, same, apart, conditions}
-use Rattle.sheet.specs.Canonical.{TermWithin, Within}
-use Rattle.sheet.proofs.Ranges.{All}
+use Rattle.canonical.specs.Canonical.{TermWithin, Within}
+use Rattle.buffers.specs.Lists.{All}
+use Rattle.buffers.proofs.Lists.{every-all, all-every}
 use Rattle.sheet.proofs.Accepted.{sound}
 use Rattle.sheet.proofs.Conditions.{TermIn, conditions-length, terms-length, conditions-in}
-
--- ---- of every element
-
-module _ {A : Type 0} (P : A → Type 0) where
-  -- By membership, so of all;
-  every-all : (xs : List A) → ((x : A) → List·Memᴰ x xs → P x) → All P xs
-  every-all [] h = tt
-  every-all (x ∷ xs) h = (h x (List·Memᴰ·head refl), every-all xs (λ y on. h y (List·Memᴰ·tail on)))
-
-  -- of all, so by membership.
-  all-every : (xs : List A) → All P xs → (x : A) → List·Memᴰ x xs → P x
-  all-every (x ∷ xs) h y (List·Memᴰ·head e) = subst P (sym e) (h .0)
-  all-every (x ∷ xs) h y (List·Memᴰ·tail on) = all-every xs (h .1) y on
 
 -- ---- of every term
 

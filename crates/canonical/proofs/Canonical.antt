@@ -4,17 +4,17 @@ use mathlib.Core.List.{List, [], _∷_, _++_, flatten}
 use mathlib.Core.Path.{_≡_, refl}
 use native.Mathlib.Omega.{arith}
 use lib.ListN.{length, drop, length-append}
-use Rattle.sheet.specs.Bytes.{number, twoBytes}
+use Rattle.buffers.specs.Bytes.{number, twoBytes}
 use Rattle.sheet.specs.Format.{headerLength, lotCount, conditionCount, recordCount}
 use Rattle.sheet.specs.Inner.{headerAt, HasHeader}
 use Rattle.sheet.specs.Checks.{Accepted}
 use Rattle.sheet.specs.Conditions.{Term, same, apart, conditions}
 use Rattle.sheet.specs.Answers.{answered, readAnswer}
-use Rattle.sheet.specs.Canonical.{termRecord, chainRecords, sheetRecords, headsFrom, canonical, canonicalLength, TermWithin, Within}
-use Rattle.sheet.proofs.Ranges.{All}
-use Rattle.sheet.proofs.CanonicalWithin.{within-every}
-use Rattle.sheet.proofs.CanonicalChains.{Laid, laid-accepted, laid-conditions}
-use Rattle.sheet.proofs.CanonicalBytes.{past, length-heads, length-records, drop-past, laid-at}
+use Rattle.canonical.specs.Canonical.{termRecord, chainRecords, sheetRecords, headsFrom, canonical, canonicalLength, TermWithin, Within}
+use Rattle.buffers.specs.Lists.{All}
+use Rattle.canonical.proofs.Limits.{within-every}
+use Rattle.canonical.proofs.Chains.{Laid, laid-accepted, laid-conditions}
+use Rattle.canonical.proofs.Places.{past, length-heads, length-records, drop-past, laid-at}
 
 module _ (n : ℕ) (tss : List (List Term)) where
   -- It has 6 + 2m + 8k bytes:

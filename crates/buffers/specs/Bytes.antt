@@ -1,5 +1,5 @@
 -- Two-byte numbers (document 01, "The sheet", first sentence).
-use Prim.Native.Nat.{ℕ, _+_, _*_, _/_, _%_}
+use Prim.Native.Nat.{ℕ, _+_, _*_, _/_, _%_, _<_}
 use mathlib.Core.List.{List, [], _∷_}
 use lib.ListN.{getD}
 
@@ -10,3 +10,7 @@ number s i = getD s i 0 + 256 * getD s (i + 1) 0
 -- The two bytes of a number.
 unfoldable pub twoBytes : ℕ → List ℕ
 twoBytes x = x % 256 ∷ x / 256 % 256 ∷ []
+
+-- A number that has two bytes.
+abbrev pub TwoBytes : ℕ → Type 0
+TwoBytes x = x < 65536

@@ -1,27 +1,27 @@
--- The records of a search fit their bytes.
-use Prim.Native.Nat.{ℕ, suc, _+_, _≤_}
-use mathlib.Core.List.{List, [], _∷_, _++_}
-use mathlib.Core.Path.{_≡_, ap, _∙_}
+-- How many records a search has, and that they fit their bytes.
+use Prim.Native.Nat.{ℕ, suc, _+_, _*_, _≤_}
+use mathlib.Core.List.{List, _∷_}
+use mathlib.Core.Path.{_≡_, refl, ap, _∙_}
 use native.Mathlib.Omega.{arith}
 use lib.ListN.{length, length-append}
 use Rattle.sheet.specs.Format.{mostConditions}
 use Rattle.sheet.specs.Checks.{Accepted}
 use Rattle.sheet.specs.Conditions.{Term, conditions}
-use Rattle.sheet.proofs.Ranges.{All}
+use Rattle.buffers.specs.Lists.{All}
+use Rattle.buffers.proofs.Lists.{all-both}
 use Rattle.sheet.proofs.Accepted.{sound}
 use Rattle.sheet.proofs.Conditions.{conditions-length}
 use Rattle.equality.specs.Node.{Decisions}
 use Rattle.equality.specs.Search.{Tree, metLeaf, groundLeaf, oneBranch, twoBranches, nodeCount, nodeRule, searchTree}
-use Rattle.equality.proofs.Small.{Small, conditions-small}
+use Rattle.equality.specs.Opens.{Small}
+use Rattle.equality.proofs.Small.{conditions-small}
 use Rattle.equality.proofs.Rule.{TakenAt, ground-at, split-at}
 use Rattle.equality.proofs.Opens.{pair-small}
-use Rattle.equality.proofs.Visits.{Visits, visits-met, visits-ground, visits-one, visits-two, search-visits}
-use Rattle.store.specs.Records.{NodeRecord, records, mostNodes}
-use Rattle.store.proofs.Codec.{Fits}
-
-fit-append : (xs ys : List NodeRecord) → All Fits xs → All Fits ys → All Fits (xs ++ ys)
-fit-append [] ys hx hy = hy
-fit-append (x ∷ xs) ys hx hy = (hx .0, fit-append xs ys (hx .1) hy)
+use Rattle.equality.specs.Visits.{Visits, visits-met, visits-ground, visits-one, visits-two}
+use Rattle.equality.proofs.Visits.{search-visits}
+use Rattle.store.specs.Records.{mostNodes, recordLength, encodeAll, Fits}
+use Rattle.store.proofs.Codec.{encodeAll-length}
+use Rattle.outcome.specs.Nodes.{records}
 
 -- A search visits a node at least.
 pub node-count : (t : Tree) → 1 ≤ nodeCount t
@@ -30,6 +30,18 @@ node-count (metLeaf ds) = omega arith
 node-count (groundLeaf c) = omega arith
 node-count (oneBranch a b t) = omega arith
 node-count (twoBranches a b t u) = omega arith
+
+-- A search writes as many records as it visits nodes.
+pub records-count : (at : ℕ) (t : Tree) → length (records at t) ≡ nodeCount t
+unfolding records nodeCount
+records-count at (metLeaf ds) = refl
+records-count at (groundLeaf c) = refl
+records-count at (oneBranch a b t) = omega (arith, records-count (at + 1) t)
+records-count at (twoBranches a b t u) =
+    omega (arith, length-append (records (at + 1) t) (records (at + 1 + nodeCount t) u), records-count (at + 1) t, records-count (at + 1 + nodeCount t) u)
+
+pub bytes-count : (at : ℕ) (t : Tree) → length (encodeAll (records at t)) ≡ recordLength * nodeCount t
+bytes-count at t = encodeAll-length (records at t) ∙ ap (λ (n : ℕ). recordLength * n) (records-count at t)
 
 module _ (s : List ℕ) (ok : Accepted s) where
   -- The records of a tree from `at` on fit where their numbers do,
@@ -50,7 +62,7 @@ module _ (s : List ℕ) (ok : Accepted s) where
       (omega arith, tree-fits v (pair, small) (at + 1) (omega arith))
   tree-fits {ds} (visits-two {a = a} {b = b} {t = t} {u = u} e v q w) small at h =
       let pair = pair-small ds small (conditions s) (conditions-small s ok) a b (split-at ds (conditions s) a b e) in
-      (omega (arith, node-count u), fit-append (records (at + 1) t) (records (at + 1 + nodeCount t) u) (tree-fits v (pair, small) (at + 1) (omega arith)) (tree-fits w (pair, small) (at + 1 + nodeCount t) (omega arith)))
+      (omega (arith, node-count u), all-both Fits (records (at + 1) t) (records (at + 1 + nodeCount t) u) (tree-fits v (pair, small) (at + 1) (omega arith)) (tree-fits w (pair, small) (at + 1 + nodeCount t) (omega arith)))
 
   -- and those of the whole search where it has at most 65,535 nodes.
   pub search-fits : nodeCount (searchTree (conditions s)) ≤ mostNodes → All Fits (records 1 (searchTree (conditions s)))

@@ -1,10 +1,10 @@
--- `sheet::format::number_at` meets its contract: two bytes are each below 256, so that their number fits sixteen bits.
+-- `buffers::number_at` meets its contract: two bytes are each below 256, so that their number fits sixteen bits.
 use Prim.Native.Nat.{_+_}
 use native.Mathlib.Omega.{arith}
 use borrow.Author.Needs.{needs}
-use Rattle.sheet.specs.Bytes.{number}
-use Rattle.sheet.proofs.format.number_at.Statement.{statement}
-use Rattle.sheet.proofs.format.number_at.Tie as tie
+use Rattle.buffers.specs.Bytes.{number}
+use Rattle.buffers.proofs.number_at.Statement.{statement}
+use Rattle.buffers.proofs.number_at.Tie as tie
 
 shared-slice-read-result : tie.Need-shared-slice-read-result
 shared-slice-read-result c = search needs

@@ -1,0 +1,4 @@
+pub mod Limits
+pub mod Chains
+pub mod Places
+pub mod Canonical
