@@ -5,3 +5,4 @@ pub mod Conditions
 pub mod Canonical
 pub mod Answers
 pub mod Inner
+pub mod Chains

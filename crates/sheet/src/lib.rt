@@ -1,7 +1,8 @@
 // Condition sheets: the format's words, and the reader.
 pub mod format; // format.rt: numbers, heads and records in a sheet's bytes
+pub mod chain; // chain.rt: the reader of a chain
 mod checks; // checks.rt: checks 1 to 5 and 7
-mod chains; // chains.rt: check 6, and with it check 7
+mod once; // once.rt: check 6, and with it check 7
 
 ghost use mathlib.Core.Path.{_≡_};
 ghost use Rattle.sheet.specs.Checks.{sheetVerdict};
@@ -84,5 +85,5 @@ fn first_refusal(sheet: &[u8]) -> Verdict
     if let Verdict::Refuses(_, _) = formed {
         return formed;
     }
-    chains::check(sheet, h)
+    once::check(sheet, h)
 }

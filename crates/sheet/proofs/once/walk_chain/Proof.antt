@@ -1,12 +1,12 @@
--- `sheet::chains::walk_chain` meets its contract. The loop's invariant: the walk, whatever its marks stood for at first, is what it is
+-- `sheet::once::walk_chain` meets its contract. The loop's invariant: the walk, whatever its marks stood for at first, is what it is
 -- from the present record on, with the present marks. The measure is how many records are not marked: each turn marks one more.
 use native.Mathlib.Omega.{arith}
 use borrow.Author.Needs.{needs}
 use Rattle.sheet.proofs.Accepted.{conditions-counted, has-record}
 use Rattle.sheet.proofs.Marks.{unmarked}
 use Rattle.sheet.proofs.WalkLoops.{Walking, begun, ended, hit, fewer, more}
-use Rattle.sheet.proofs.chains.walk_chain.Statement.{statement}
-use Rattle.sheet.proofs.chains.walk_chain.Tie as tie
+use Rattle.sheet.proofs.once.walk_chain.Statement.{statement}
+use Rattle.sheet.proofs.once.walk_chain.Tie as tie
 
 abbrev Inv-loop : tie.InvT-loop
 Inv-loop sheet marks₀ m at₀ marks at = Walking sheet marks₀ (at₀ .0) marks (at .0)
