@@ -67,8 +67,7 @@ pub fn read(sheet: &[u8]) -> Reading
     }
 }
 
-// The first of checks 1 to 7 that refuses. Heads are read once by check 4 and once by the walk, records once by check 5, and of
-// each record its next once more by the walk.
+// The first of checks 1 to 7 that refuses. Heads are read once by check 4 and once by the walk, records once by check 5 and once by the walk.
 fn first_refusal(sheet: &[u8]) -> Verdict
     ensures { λ v. ⌜ v ≡ sheetVerdict (now (sheet .entry)) ⌝ }
 {
