@@ -45,7 +45,7 @@ fn is_met(sheet: &[u8], m: u16, grouping: &[u8], head: Record) -> bool
 {
     let mut at = head;
     while at.0 != 0 {
-        let t = chain::term_at(sheet, at, m);
+        let t = sheet::chain::term_at(sheet, at, m);
         if is_true(grouping, t) {
             return true;
         }

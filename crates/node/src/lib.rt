@@ -133,7 +133,7 @@ pub fn first_open(
 {
     let mut at = from;
     while at.0 != 0 {
-        let t = chain::term_at(sheet, at, m);
+        let t = sheet::chain::term_at(sheet, at, m);
         let a = t.a;
         let b = t.b;
         let next = t.next;

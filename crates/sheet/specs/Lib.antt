@@ -3,3 +3,4 @@ pub mod Checks
 pub mod Conditions
 pub mod Answers
 pub mod Inner
+pub mod Chains

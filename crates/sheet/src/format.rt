@@ -2,8 +2,7 @@
 ghost use mathlib.Core.Path.{_≡_};
 ghost use Prim.Native.Nat.{_+_, _*_, _≤_};
 ghost use lib.ListN.{length};
-ghost use Rattle.buffers.specs.Bytes.{number};
-ghost use Rattle.sheet.specs.Format.{recordPlace, headAt, spareAt, nextAt};
+ghost use Rattle.sheet.specs.Format.{recordPlace, headAt, spareAt};
 ghost use Rattle.sheet.specs.Inner.{headerAt, termRecordAt, HasRecord};
 use crate::Condition;
 use crate::Header;
@@ -48,15 +47,6 @@ pub fn spare_at(sheet: &[u8], m: u16, r: Record) -> u8
 {
     let p = record_place(m, r);
     sheet[p + 1]
-}
-
-// The record of the following term; zero ends the chain.
-pub fn next_at(sheet: &[u8], m: u16, r: Record) -> Record
-    requires { ⌜ HasRecord (now sheet) m (r .0) ⌝ }
-    ensures { λ n. ⌜ n .0 ≡ nextAt (now (sheet .entry)) (r .0) ⌝ }
-{
-    let p = record_place(m, r);
-    Record(buffers::number_at(sheet, p + 6))
 }
 
 // The term at a record.

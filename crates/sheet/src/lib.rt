@@ -1,7 +1,8 @@
 // Condition sheets: the format's words, and the reader.
 pub mod format; // format.rt: numbers, heads and records in a sheet's bytes
+pub mod chain; // chain.rt: the reader of a chain
 mod checks; // checks.rt: checks 1 to 5 and 7
-mod chains; // chains.rt: check 6, and with it check 7
+mod once; // once.rt: check 6, and with it check 7
 
 ghost use mathlib.Core.Path.{_≡_};
 ghost use Rattle.sheet.specs.Checks.{sheetVerdict};
@@ -66,8 +67,7 @@ pub fn read(sheet: &[u8]) -> Reading
     }
 }
 
-// The first of checks 1 to 7 that refuses. Heads are read once by check 4 and once by the walk, records once by check 5, and of
-// each record its next once more by the walk.
+// The first of checks 1 to 7 that refuses. Heads are read once by check 4 and once by the walk, records once by check 5 and once by the walk.
 fn first_refusal(sheet: &[u8]) -> Verdict
     ensures { λ v. ⌜ v ≡ sheetVerdict (now (sheet .entry)) ⌝ }
 {
@@ -84,5 +84,5 @@ fn first_refusal(sheet: &[u8]) -> Verdict
     if let Verdict::Refuses(_, _) = formed {
         return formed;
     }
-    chains::check(sheet, h)
+    once::check(sheet, h)
 }

@@ -1,4 +1,4 @@
--- `sheet::chains::check` meets its contract: k zeros are marks of which none is set, and checks 1 to 5 make the sheet one to walk.
+-- `sheet::once::check` meets its contract: k zeros are marks of which none is set, and checks 1 to 5 make the sheet one to walk.
 use Prim.Native.Nat.{ℕ, _≤_}
 use mathlib.Core.List.{List}
 use mathlib.Core.Path.{sym, _∙_}
@@ -6,8 +6,8 @@ use native.Mathlib.Omega.{arith}
 use borrow.Author.Needs.{needs}
 use Rattle.sheet.proofs.Accepted.{records-counted, heads-found, records-found}
 use Rattle.sheet.proofs.Marks.{zeros-length, none-marked}
-use Rattle.sheet.proofs.chains.check.Statement.{statement}
-use Rattle.sheet.proofs.chains.check.Tie as tie
+use Rattle.sheet.proofs.once.check.Statement.{statement}
+use Rattle.sheet.proofs.once.check.Tie as tie
 
 -- The marks have room for every record.
 few : (a : tie.Start) → a .args .h .records ≤ 1024

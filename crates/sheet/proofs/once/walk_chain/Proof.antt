@@ -1,12 +1,12 @@
--- `sheet::chains::walk_chain` meets its contract. The loop's invariant: the walk, whatever its marks stood for at first, is what it is
+-- `sheet::once::walk_chain` meets its contract. The loop's invariant: the walk, whatever its marks stood for at first, is what it is
 -- from the present record on, with the present marks. The measure is how many records are not marked: each turn marks one more.
 use native.Mathlib.Omega.{arith}
 use borrow.Author.Needs.{needs}
 use Rattle.sheet.proofs.Accepted.{conditions-counted, has-record}
 use Rattle.sheet.proofs.Marks.{unmarked}
 use Rattle.sheet.proofs.WalkLoops.{Walking, begun, ended, hit, fewer, more}
-use Rattle.sheet.proofs.chains.walk_chain.Statement.{statement}
-use Rattle.sheet.proofs.chains.walk_chain.Tie as tie
+use Rattle.sheet.proofs.once.walk_chain.Statement.{statement}
+use Rattle.sheet.proofs.once.walk_chain.Tie as tie
 
 abbrev Inv-loop : tie.InvT-loop
 Inv-loop sheet marks₀ m at₀ marks at = Walking sheet marks₀ (at₀ .0) marks (at .0)
@@ -28,8 +28,8 @@ cast-i c = search needs
 slice-read-if2 : tie.Need-slice-read-if2 Inv-loop μ-loop
 slice-read-if2 c = search needs
 
-cast-t12 : tie.Need-cast-t12 Inv-loop μ-loop
-cast-t12 c = search needs
+cast-t13 : tie.Need-cast-t13 Inv-loop μ-loop
+cast-t13 c = search needs
 
 same-length : tie.Need-same-length Inv-loop μ-loop
 same-length c = search needs
@@ -42,24 +42,30 @@ returns c =
 slice-write-marks : tie.Need-slice-write-marks Inv-loop μ-loop
 slice-write-marks c = search needs
 
-next-at-requires : tie.Need-next-at-requires Inv-loop μ-loop
-next-at-requires c κs =
+term-at-requires : tie.Need-term-at-requires Inv-loop μ-loop
+term-at-requires c κs =
     let l = c .before .before .before .before .before in
     let a = l .before .before .before in
     let has = a .pre .0 .header in
     rw (conditions-counted has) (has-record has (l .loop .at .0) (omega arith) (l .loop .inv .within))
 
+-- The turn that a record which is not marked is in.
+abbrev turn : tie.Else2 Inv-loop μ-loop → tie.Then1 Inv-loop μ-loop
+turn c = c .before .before .before
+
 loop-less : tie.Need-loop-less Inv-loop μ-loop
 loop-less c =
-    let t = c .before .before .before .before in
-    fewer (t .before .before .loop .inv) (t .if1 .taken) (c .before .if2 .left)
+    let else = c .before .before in
+    let t = turn else in
+    fewer (t .before .before .loop .inv) (t .if1 .taken) (else .if2 .left)
 
 loop-again : tie.Need-loop-again Inv-loop μ-loop
 loop-again c =
-    let t = c .before .before .before .before in
+    let else = c .before .before in
+    let t = turn else in
     let l = t .before .before in
     let next = l .before .before .before .pre .0 .nexts (l .loop .at .0) (omega arith) (l .loop .inv .within) in
-    rw (c .next-at .ensures) (more (l .loop .inv) (t .if1 .taken) (c .before .if2 .left) next)
+    rw (c .before .term-at .ensures) (more (l .loop .inv) (t .if1 .taken) (else .if2 .left) next)
 
 same-length-2 : tie.Need-same-length-2 Inv-loop μ-loop
 same-length-2 c = search needs
@@ -77,11 +83,11 @@ walk-chain-spec =
     sub-i
     cast-i
     slice-read-if2
-    cast-t12
+    cast-t13
     same-length
     returns
     slice-write-marks
-    next-at-requires
+    term-at-requires
     loop-less
     loop-again
     same-length-2

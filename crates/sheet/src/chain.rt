@@ -1,10 +1,11 @@
-// A chain reader: it holds a sheet's bytes and the record of the term to read next. `sheet::format::term_at`, which does the work, takes the slice and the
-// number and is covered; the two functions here are thin.
+// A chain reader: it holds a sheet's bytes and the record of the term to read next. `format::term_at`, which does the work, takes the slice and the number
+// and is covered; the two functions here are thin.
 ghost use mathlib.Core.Path.{_≡_};
 ghost use Rattle.sheet.specs.Inner.{termRecordAt, HasRecord};
-ghost use Rattle.chain.specs.Chains.{movedOn};
-use sheet::Record;
-use sheet::Term;
+ghost use Rattle.sheet.specs.Chains.{movedOn};
+use crate::Record;
+use crate::Term;
+use crate::format;
 
 pub struct Chain<'a> {
     pub sheet: &'a [u8],
@@ -16,7 +17,7 @@ pub fn advance<'s, 'a>(c: &'s mut Chain<'a>, m: u16) -> Term
     requires { ⌜ HasRecord (now (now c .sheet)) m (now c .next .0) ⌝ }
     ensures { λ t. ⌜ (t ≡ termRecordAt (now (now (c .entry) .sheet)) (now (c .entry) .next .0)) × (now (c .exit) ≡ movedOn (now (c .entry))) ⌝ }
 {
-    let t = sheet::format::term_at(c.sheet, m, c.next);
+    let t = format::term_at(c.sheet, m, c.next);
     c.next = t.next;
     t
 }

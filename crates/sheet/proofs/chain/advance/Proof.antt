@@ -1,5 +1,5 @@
--- `chain::advance` meets its contract: a walk of its MIR, by hand. The borrow is opened, which gives the struct's cell and what the struct owns; of that, which is Copy, one copy goes to `sheet::format::term_at`; the term's next is stored in the cell, and the borrow is closed at the struct with the new record number.
--- All that the proof knows of `sheet::format::term_at` is that it meets its contract.
+-- `sheet::chain::advance` meets its contract: a walk of its MIR, by hand. The borrow is opened, which gives the struct's cell and what the struct owns; of that, which is Copy, one copy goes to `format::term_at`; the term's next is stored in the cell, and the borrow is closed at the struct with the new record number.
+-- All that the proof knows of `format::term_at` is that it meets its contract.
 use mathlib.Core.Path.{_≡_, refl, ap, subst}
 use Prim.Native.Nat.{ℕ, _<_, _^_}
 use mathlib.Core.List.{List, [], _∷_}
@@ -44,24 +44,24 @@ use denote.Triple.Spec.{Meets, tripleOf}
 use denote.Triple.Table.{entered, cited}
 use denote.Triple.Walked.{says, needs, Stays, stay-ref, stay-none, walkOf, goes-none, goes-ref, Walks, ends-at, walked, walk-meets}
 use denote.Exit.{yes}
 use Rattle.sheet.specs.Inner.{termRecordAt, HasRecord}
-use Rattle.chain.specs.declared.Chain.{Chain}
+use Rattle.sheet.specs.declared.chain.Chain.{Chain}
 use Rattle.sheet.specs.declared.Record.{Record}
 use Rattle.sheet.specs.declared.Term.{Term}
-use Rattle.chain.proofs.Chain as T
-use Rattle.chain.proofs.Chain.Laws as T′
+use Rattle.sheet.proofs.chain.Chain as T
+use Rattle.sheet.proofs.chain.Chain.Laws as T′
 use Rattle.sheet.proofs.Record as N
 use Rattle.sheet.proofs.Record.Laws as N′
 use Rattle.sheet.proofs.Term as S
 use Rattle.sheet.proofs.Term.Laws as S′
 use Rattle.sheet.proofs.format.term_at as term-at
 use Rattle.sheet.proofs.format.term_at.Symbol as term-at-def
 use Rattle.sheet.proofs.format.term_at.Symbol.{name as #sheet·format·term-at}
 use Rattle.sheet.proofs.format.term_at.Met as term-at-thm
-use Rattle.chain.proofs.advance.Key.{name as #chain·advance}
-use Rattle.chain.proofs.advance as advance
-use Rattle.chain.proofs.advance.Statement as stated
-use Rattle.chain.proofs.advance.Code as code
+use Rattle.sheet.proofs.chain.advance.Key.{name as #sheet·chain·advance}
+use Rattle.sheet.proofs.chain.advance as advance
+use Rattle.sheet.proofs.chain.advance.Statement as stated
+use Rattle.sheet.proofs.chain.advance.Code as code
 
 -- `Chain<'a>`, as the referent's place in the signature
 abbrev behind : Slot 2
@@ -194,6 +194,6 @@ pub advance-spec : {M : Type 1} → stated.statement M
 unfolding code.routine tablesOf
 advance-spec 𝓤 H 𝓜 𝓖 𝓡 =
     entered 𝓤 H (tripleOf 𝓤 H (𝓖 .A) advance.signature (advance.spec 𝓤 H (𝓖 .A) (𝓜 .mem) (𝓡 .run)))
-    (tables 𝓤 H 𝓜 𝓡 code.env .C) (tables 𝓤 H 𝓜 𝓡 code.env .Λ) #chain·advance code.function (code.unfolded 𝓤 H 𝓜 𝓡)
+    (tables 𝓤 H 𝓜 𝓡 code.env .C) (tables 𝓤 H 𝓜 𝓡 code.env .Λ) #sheet·chain·advance code.function (code.unfolded 𝓤 H 𝓜 𝓡)
     (advance-meets 𝓤 H (𝓖 .A) (givenOf 𝓤 H 𝓜 𝓖) (𝓜 .mem) (𝓡 .run) (tablesOf 𝓤 H 𝓜 (tables 𝓤 H 𝓜 𝓡 code.env))
     (cited 𝓤 H (TermAt 𝓤 H (𝓖 .A) (𝓜 .mem) (𝓡 .run)) 𝓜 𝓡 code.env #sheet·format·term-at term-at-def.routine code.calls-sheet·format·term-at (term-at-thm.met 𝓤 H 𝓜 𝓖 𝓡)))

@@ -1,4 +1,4 @@
--- `chain::term_at` meets its contract: a walk of its MIR, by hand. A `Chain` is made in a local, of the slice and the record number; the local is lent to `advance` by `&mut` for a lifetime of the call, and comes back (`Lending.antt`); the term is the result.
+-- `sheet::chain::term_at` meets its contract: a walk of its MIR, by hand. A `Chain` is made in a local, of the slice and the record number; the local is lent to `advance` by `&mut` for a lifetime of the call, and comes back (`Lending.antt`); the term is the result.
 -- A `&[u8]` is Copy, so what it owns is had twice: once for sheet at exit, and once inside the local. All that the proof knows of `advance` is that it meets its contract.
 use mathlib.Core.Path.{_≡_, refl}
 use Prim.Native.Nat.{ℕ, _<_, _^_}
@@ -41,26 +41,26 @@ use denote.Triple.Table.{entered, cited}
 use denote.Triple.Walked.{says, needs, Stays, stay-none, stay-none-slice, walkOf, goes-none, goes-none-slice, Walks, ends-at, walked, walk-meets}
 use denote.Exit.{yes}
 use denote.Triple.Clauses.{ensured, lasts}
 use Rattle.sheet.specs.Inner.{termRecordAt, HasRecord}
-use Rattle.chain.specs.Chains.{movedOn}
-use Rattle.chain.specs.declared.Chain.{Chain}
+use Rattle.sheet.specs.Chains.{movedOn}
+use Rattle.sheet.specs.declared.chain.Chain.{Chain}
 use Rattle.sheet.specs.declared.Record.{Record}
 use Rattle.sheet.specs.declared.Term.{Term}
-use Rattle.chain.proofs.Chain as T
-use Rattle.chain.proofs.Chain.Laws as T′
+use Rattle.sheet.proofs.chain.Chain as T
+use Rattle.sheet.proofs.chain.Chain.Laws as T′
 use Rattle.sheet.proofs.Record as N
 use Rattle.sheet.proofs.Record.Laws as N′
 use Rattle.sheet.proofs.Term as S
 use Rattle.sheet.proofs.Term.Laws as S′
 use Rattle.buffers.proofs.Lending.{lies-in, lies-out, LenderHas, bounds-hold, lends-local, local-back}
-use Rattle.chain.proofs.advance as advance
-use Rattle.chain.proofs.advance.Symbol as advance-def
-use Rattle.chain.proofs.advance.Symbol.{name as #chain·advance}
-use Rattle.chain.proofs.advance.Met as advance-thm
-use Rattle.chain.proofs.term_at.Key.{name as #chain·term-at}
-use Rattle.chain.proofs.term_at as term-at
-use Rattle.chain.proofs.term_at.Statement as stated
-use Rattle.chain.proofs.term_at.Code as code
+use Rattle.sheet.proofs.chain.advance as advance
+use Rattle.sheet.proofs.chain.advance.Symbol as advance-def
+use Rattle.sheet.proofs.chain.advance.Symbol.{name as #sheet·chain·advance}
+use Rattle.sheet.proofs.chain.advance.Met as advance-thm
+use Rattle.sheet.proofs.chain.term_at.Key.{name as #sheet·chain·term-at}
+use Rattle.sheet.proofs.chain.term_at as term-at
+use Rattle.sheet.proofs.chain.term_at.Statement as stated
+use Rattle.sheet.proofs.chain.term_at.Code as code
 
 abbrev stayed : Stays (term-at.ended .signature .params) (term-at.ended .kept)
 stayed = (stay-none-slice (0 ∷ []) tt (plain (λ _. u8)) yes, (stay-none (λ _. N.the-row) yes, (stay-none (λ _. u16) yes, tt)))
@@ -115,7 +115,7 @@ module _ {M : Type 1} (𝓤 : URA M) (H : Heap 𝓤) (A : Atoms 𝓤) (W : Given
       nothing ! $ move ! (2 ∷ 0 ∷ []) $ join ! $ frame ! $ nothing ! $ owned ! u16 (Is u16) (uint-makes 𝓤 H A W w16) m _ (refl, m-fits) $ fjoin ! $ owned ! N.the-row (Is N.the-row) (LL.makes N.the-type N′.the-plain 𝓤 H A) n _ is-n $ fjoin ! $
       move ! (2 ∷ 0 ∷ []) $ fjoin ! $ frame ! $ done !
 
-  module _ (C : Calls 𝓤 H) (Λ : Loops 𝓤 H) (fm : FmC 𝓤 H (W .laws) C) (known : Triple 𝓤 (C #chain·advance) (Advance 𝓤 H A mem run)) where
+  module _ (C : Calls 𝓤 H) (Λ : Loops 𝓤 H) (fm : FmC 𝓤 H (W .laws) C) (known : Triple 𝓤 (C #sheet·chain·advance) (Advance 𝓤 H A mem run)) where
     walk : Is (ShrSlice (named 0) κ u8) s (v ∷ []) → ent 𝓤 (onEntry 𝓤 H A term-at.signature (κ, tt) (q, tt) (s, (n, (m, tt))) at) (WpFn 𝓤 H C Λ code.function (v ∷ N′.lowered n ∷ vint w16 m ∷ []) Post)
     walk p =
         let typed-s = shr-slice-lawful 𝓤 H A W (named 0) κ u8 .typed s (v ∷ []) p .0 in
@@ -155,14 +155,14 @@ module _ {M : Type 1} (𝓤 : URA M) (H : Heap 𝓤) (A : Atoms 𝓤) (W : Given
         keep ! (2 ∷ 1 ∷ 4 ∷ []) $ by ! (exits t u (e .0))))))))))))))))
 
 module _ {M : Type 1} (𝓤 : URA M) (H : Heap 𝓤) (A : Atoms 𝓤) (W : Given 𝓤 H A) (mem : Memory → SProp 𝓤) (run : Routine → Fun 𝓤) where
-  term-at-walks : (C : Calls 𝓤 H) (Λ : Loops 𝓤 H) → FmC 𝓤 H (W .laws) C → Triple 𝓤 (C #chain·advance) (Advance 𝓤 H A mem run)
+  term-at-walks : (C : Calls 𝓤 H) (Λ : Loops 𝓤 H) → FmC 𝓤 H (W .laws) C → Triple 𝓤 (C #sheet·chain·advance) (Advance 𝓤 H A mem run)
       → Walks 𝓤 H A term-at.ended stayed (WpFn 𝓤 H C Λ code.function) (term-at.clauses 𝓤 H A mem run)
   term-at-walks C Λ fm known = walked 𝓤 H A term-at.ended stayed (term-at.clauses 𝓤 H A mem run) (WpFn 𝓤 H C Λ code.function) (λ κs. (slice-vals, (LL.vals N.the-type N′.the-laws, (uint-vals w16, tt)))) (λ κs. (shr-slice-tells (named 0) (κs .0) u8, (LL.tells N.the-type N′.the-laws, (uint-tells w16, tt))))
       (λ κs qs bounds a g are. needs 𝓤 (HasRecord (now (a .0)) (a .1 .1 .0) (a .1 .0 .0)) _
       (λ has. walk 𝓤 H A W mem run (κs .0) (qs .0) (a .0) (a .1 .0) (are .1 .0) (a .1 .1 .0) (are .1 .1 .0 .1) has C Λ fm known (are .0)))
 
 term-at-meets : {M : Type 1} (𝓤 : URA M) (H : Heap 𝓤) (A : Atoms 𝓤) (W : Given 𝓤 H A) (mem : Memory → SProp 𝓤) (run : Routine → Fun 𝓤) (𝓣 : Tables 𝓤 H)
-    → Triple 𝓤 (𝓣 .C #chain·advance) (Advance 𝓤 H A mem run)
+    → Triple 𝓤 (𝓣 .C #sheet·chain·advance) (Advance 𝓤 H A mem run)
     → Meets 𝓤 H A term-at.signature (WpFn 𝓤 H (𝓣 .C) (𝓣 .Λ) code.function) (term-at.spec 𝓤 H A mem run)
 term-at-meets 𝓤 H A W mem run 𝓣 known = walk-meets 𝓤 H A term-at.ended stayed W (goes-none-slice 𝓤 H A W 1 (0 ∷ []) tt (plain (λ _. u8)) yes, (goes-none 𝓤 H A W 1 (λ _. N.the-row) yes (λ κs x f. refl), (goes-none 𝓤 H A W 1 (λ _. u16) yes (λ κs x f. refl), tt))) (term-at.clauses 𝓤 H A mem run) (WpFn 𝓤 H (𝓣 .C) (𝓣 .Λ) code.function) (WpFn-mono 𝓤 H (W .laws) 𝓣 code.function)
     (term-at-walks 𝓤 H A W mem run (𝓣 .C) (𝓣 .Λ) (fmOf 𝓤 H (W .laws) 𝓣) known)
@@ -171,6 +171,6 @@ pub term-at-spec : {M : Type 1} → stated.statement M
 unfolding code.routine tablesOf
 term-at-spec 𝓤 H 𝓜 𝓖 𝓡 =
     entered 𝓤 H (tripleOf 𝓤 H (𝓖 .A) term-at.signature (term-at.spec 𝓤 H (𝓖 .A) (𝓜 .mem) (𝓡 .run)))
-    (tables 𝓤 H 𝓜 𝓡 code.env .C) (tables 𝓤 H 𝓜 𝓡 code.env .Λ) #chain·term-at code.function (code.unfolded 𝓤 H 𝓜 𝓡)
+    (tables 𝓤 H 𝓜 𝓡 code.env .C) (tables 𝓤 H 𝓜 𝓡 code.env .Λ) #sheet·chain·term-at code.function (code.unfolded 𝓤 H 𝓜 𝓡)
     (term-at-meets 𝓤 H (𝓖 .A) (givenOf 𝓤 H 𝓜 𝓖) (𝓜 .mem) (𝓡 .run) (tablesOf 𝓤 H 𝓜 (tables 𝓤 H 𝓜 𝓡 code.env))
-    (cited 𝓤 H (Advance 𝓤 H (𝓖 .A) (𝓜 .mem) (𝓡 .run)) 𝓜 𝓡 code.env #chain·advance advance-def.routine code.calls-chain·advance (advance-thm.met 𝓤 H 𝓜 𝓖 𝓡)))
+    (cited 𝓤 H (Advance 𝓤 H (𝓖 .A) (𝓜 .mem) (𝓡 .run)) 𝓜 𝓡 code.env #sheet·chain·advance advance-def.routine code.calls-sheet·chain·advance (advance-thm.met 𝓤 H 𝓜 𝓖 𝓡)))

@@ -1,9 +1,9 @@
--- `sheet::chains::reached_once` meets its contract: where the walk refuses, check 6 does; where it passes, the marks are what check 7 asks of.
+-- `sheet::once::reached_once` meets its contract: where the walk refuses, check 6 does; where it passes, the marks are what check 7 asks of.
 use mathlib.Core.Path.{_∙_}
 use borrow.Author.Needs.{needs}
 use Rattle.sheet.proofs.WalkLoops.{walk-refused, walk-passed}
-use Rattle.sheet.proofs.chains.reached_once.Statement.{statement}
-use Rattle.sheet.proofs.chains.reached_once.Tie as tie
+use Rattle.sheet.proofs.once.reached_once.Statement.{statement}
+use Rattle.sheet.proofs.once.reached_once.Tie as tie
 
 walk-requires : tie.Need-walk-requires
 walk-requires c κs = search needs

@@ -10,6 +10,7 @@ use crate::Condition;
 use crate::Header;
 use crate::Record;
 use crate::Verdict;
+use crate::chain;
 use crate::checks;
 use crate::format;
 
@@ -27,7 +28,8 @@ fn walk_chain(sheet: &[u8], h: Header, head: Record, marks: &mut [u8]) -> Verdic
             return Verdict::Refuses(6, at.0 as u32);
         }
         marks[i] = 1;
-        at = format::next_at(sheet, m, at);
+        let t = chain::term_at(sheet, at, m);
+        at = t.next;
     }
     Verdict::Passes
 }

@@ -1,4 +1,4 @@
--- `sheet::chains::walk` meets its contract. The loop's invariant: the walk along all chains is what it is from the present condition on,
+-- `sheet::once::walk` meets its contract. The loop's invariant: the walk along all chains is what it is from the present condition on,
 -- after the records that the marks stand for. The measure is how many conditions are left.
 use Prim.Native.Nat.{ℕ, _+_, _-_, _≤_}
 use mathlib.Core.List.{List}
@@ -9,8 +9,8 @@ use Rattle.sheet.specs.Format.{conditionCount, headAt}
 use Rattle.sheet.specs.Inner.{WalkedTo, oneChain}
 use Rattle.sheet.proofs.Accepted.{conditions-counted}
 use Rattle.sheet.proofs.WalkLoops.{Chaining, none-yet, all-walked, chain-refused, chain-passed}
-use Rattle.sheet.proofs.chains.walk.Statement.{statement}
-use Rattle.sheet.proofs.chains.walk.Tie as tie
+use Rattle.sheet.proofs.once.walk.Statement.{statement}
+use Rattle.sheet.proofs.once.walk.Tie as tie
 
 abbrev Inv-loop : tie.InvT-loop
 Inv-loop sheet h marks₀ m c₀ marks c = Chaining sheet marks c
