@@ -14,33 +14,26 @@ use Rattle.buffers.specs.Lists.{All}
 use Rattle.sheet.proofs.Accepted.{sound}
 use Rattle.sheet.proofs.ChainEnds.{terms-end, terms-step}
 use Rattle.equality.specs.Node.{Decisions, classOf, marked, markedApart, Value, isFalse, isOpen, value, trueOrOpenApart, passedOver, ground, split, openOr, groundOrSplit}
-use Rattle.buffers.proofs.Lists.{all-map}
-use Rattle.equality.proofs.Some.{some-false, some-none}
-use Rattle.equality.proofs.Node.{openSame, taken-values, passed-by}
+use Rattle.buffers.proofs.Lists.{all-map, all-first, all-second, all-both}
+use Rattle.equality.proofs.Some.{any-false, any-none, some-none}
+use Rattle.equality.proofs.Node.{openSame, settled-by-classes, unsettled-value, passed-by}
 use Rattle.equality.specs.Opens.{closedTerm}
 use Rattle.equality.proofs.Steps.{open-not-closed, not-closed-open, apart-closed, apart-closes}
 use Rattle.classes.specs.Pairs.{setApart}
-use Rattle.node.specs.Resume.{PassesTo}
+use Rattle.node.specs.Resume.{NonePasses, PassesTo}
 
 -- ---- parts of a condition
 
-all-first : {A : Type 0} (P : A → Type 0) (xs ys : List A) → All P (xs ++ ys) → All P xs
-all-first P [] ys h = tt
-all-first P (x ∷ xs) ys h = (h .0, all-first P xs ys (h .1))
-
-all-second : {A : Type 0} (P : A → Type 0) (xs ys : List A) → All P (xs ++ ys) → All P ys
-all-second P [] ys h = h
-all-second P (x ∷ xs) ys h = all-second P xs ys (h .1)
-
-pub all-both : {A : Type 0} (P : A → Type 0) (xs ys : List A) → All P xs → All P ys → All P (xs ++ ys)
-all-both P [] ys h k = k
-all-both P (x ∷ xs) ys h k = (h .0, all-both P xs ys (h .1) k)
-
--- Where no term makes the node pass a condition over, none of its last terms does.
-pub unsettled-rest : (ds : Decisions) (before after : List Term) → passedOver ds (before ++ after) ≡ false → passedOver ds after ≡ false
-unsettled-rest ds before after e =
-    some-false (λ t. trueOrOpenApart t (value ds t)) after
+-- Where a condition is not passed over, none of its last terms is true or an open "apart" term.
+pub rest-passes-none : (ds : Decisions) (before after : List Term) → passedOver ds (before ++ after) ≡ false → NonePasses ds after
+rest-passes-none ds before after e =
+    any-false (λ t. trueOrOpenApart t (value ds t)) after
     (all-second (λ t. trueOrOpenApart t (value ds t) ≡ false) before after (some-none (λ t. trueOrOpenApart t (value ds t)) (before ++ after) e))
+
+-- Each of such terms is open or false, by the marks.
+open-values : (ds : Decisions) (ts : List Term) → NonePasses ds ts → All (λ t. value ds t ≡ openSame ds t) ts
+open-values ds ts e =
+    all-map (λ t f. unsettled-value ds t (sym (settled-by-classes ds t) ∙ f)) ts (any-none (λ t. trueOrOpenApart t (value ds t)) ts e)
 
 -- ---- terms of which none is open
 
@@ -120,9 +113,9 @@ module _ (marks : ℕ → ℕ → Bool) (s : List ℕ) (ok : Accepted s) (from a
       }
 
   -- For decisions that have these marks, and do not make any of the terms true:
-  module _ (ds : Decisions) (says : (a b : ℕ) → marks a b ≡ markedApart ds a b) (unsettled : passedOver ds (termsFrom s from) ≡ false) where
+  module _ (ds : Decisions) (says : (a b : ℕ) → marks a b ≡ markedApart ds a b) (none : NonePasses ds (termsFrom s from)) where
     values : All (λ t. value ds t ≡ openSame ds t) (l .passed ++ termsFrom s at)
-    values = rw (l .place) at (taken-values ds (termsFrom s from) unsettled)
+    values = rw (l .place) at (open-values ds (termsFrom s from) none)
 
     not-open : (t : Term) → closedBy marks t ≡ true → value ds t ≡ openSame ds t → value ds t ≢ isOpen
     not-open (same a b) e v o = false-open (sym v ∙ o) (ap (λ p. cond p isFalse isOpen) (sym (says a b) ∙ e))

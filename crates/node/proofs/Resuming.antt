@@ -1,16 +1,15 @@
 -- Going on within the taken condition: what the terms from a record on decide, and where the apart branch of a split goes on.
 use Prim.Native.Nat.{ℕ, _≤_}
-use mathlib.Core.Bool.{false}
 use mathlib.Core.List.{List, [], _∷_, _++_, append-assoc}
 use mathlib.Core.Path.{_≡_, refl, sym, ap, _∙_}
 use Rattle.sheet.specs.Format.{recordCount, headAt}
 use Rattle.sheet.specs.Conditions.{Term, apart, termsFrom, conditionAt, conditions}
-use Rattle.equality.specs.Node.{Decisions, passedOver, noCondition, takes, taken, met, groundOrSplit, nodeOf, node}
+use Rattle.equality.specs.Node.{Decisions, noCondition, takes, taken, met, groundOrSplit, nodeOf, node}
 use Rattle.equality.proofs.Node.{taken-apart, passed-by}
 use Rattle.equality.proofs.Rule.{taken-at, no-open}
-use Rattle.node.specs.Resume.{PassesTo, ResumesWithin}
+use Rattle.node.specs.Resume.{NonePasses, PassesTo, ResumesWithin}
 use Rattle.buffers.proofs.Lists.{all-both}
-use Rattle.node.proofs.Opening.{unsettled-rest, NoneOpen, none-ground, none-later}
+use Rattle.node.proofs.Opening.{rest-passes-none, NoneOpen, none-ground, none-later}
 
 -- ---- after the scan
 
@@ -41,9 +40,9 @@ module _ (s : List ℕ) (c from : ℕ) (ds : Decisions) (w : ResumesWithin s c f
       ∙ passed-by ds c (w .passes .passed) (termsFrom s from) (passed-none ds s (headAt s c) from (w .passes))
 
   -- none of them is true or an open "apart" term,
-  pub rest-unsettled : passedOver ds (termsFrom s from) ≡ false
-  rest-unsettled =
-      unsettled-rest ds (w .passes .passed) (termsFrom s from)
+  pub rest-passes : NonePasses ds (termsFrom s from)
+  rest-passes =
+      rest-passes-none ds (w .passes .passed) (termsFrom s from)
       (rw (w .passes .place) at (taken-at ds 1 (conditions s) c (conditionAt s c) (w .condition) .unmet))
 
   -- and once a pair is set apart the same condition is taken, and its terms up to the record are not open still.

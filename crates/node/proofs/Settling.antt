@@ -16,17 +16,17 @@ use Rattle.sheet.specs.Conditions.{Term, same, apart, termOf, termAt, termsFrom
 use Rattle.buffers.specs.Lists.{All}
 use Rattle.sheet.proofs.Conditions.{conditions-length}
 use Rattle.sheet.proofs.ChainEnds.{terms-step}
-use Rattle.equality.specs.Meaning.{holds, someTerm, meetsCondition}
+use Rattle.equality.specs.Meaning.{holds, anyTerm, someTerm, meetsCondition}
 use Rattle.equality.specs.Node.{Decisions, merged, classOf, classes, takes, taken, split, groundOrSplit, nodeOf, node}
 use Rattle.buffers.proofs.Lists.{all-map}
-use Rattle.equality.proofs.Some.{some-false, some-none, some-here}
+use Rattle.equality.proofs.Some.{any-false, any-none, any-here}
 use Rattle.equality.proofs.Node.{taken-values, passed-by-classes}
 use Rattle.equality.proofs.Rule.{taken-at, OpenAt, open-at}
 use Rattle.equality.proofs.Classes.{joinedTo}
 use Rattle.equality.proofs.Passing.{Passing}
 use Rattle.node.specs.Settled.{sharing, settledBy, Marked, Later, ClearedAbove}
 
--- Where one test is passed another is: so by some term of a condition.
+-- Where one test is passed another is: so by some of these terms.
 module _ (p q : Term → Bool) (also : (t : Term) → p t ≡ true → q t ≡ true) where
   not-either : (t : Term) → q t ≡ false → p t ≡ false
   not-either t f = go (p t) refl
@@ -35,16 +35,22 @@ module _ (p q : Term → Bool) (also : (t : Term) → p t ≡ true → q t ≡ t
       go true e = absurd (false≢true (sym f ∙ also t e))
       go false e = e
 
-  some-also : (ts : List Term) → someTerm p ts ≡ true → someTerm q ts ≡ true
-  some-also ts h = go (someTerm q ts) refl
+  any-also : (ts : List Term) → anyTerm p ts ≡ true → anyTerm q ts ≡ true
+  any-also ts h = go (anyTerm q ts) refl
     where
-      go : (b : Bool) → someTerm q ts ≡ b → someTerm q ts ≡ true
+      go : (b : Bool) → anyTerm q ts ≡ b → anyTerm q ts ≡ true
       go true e = e
-      go false e = absurd (false≢true (sym (some-false p ts (all-map not-either ts (some-none q ts e))) ∙ h))
+      go false e = absurd (false≢true (sym (any-false p ts (all-map not-either ts (any-none q ts e))) ∙ h))
+
+-- A condition some of whose terms is such and such has such a term, whatever a condition with no term counts for.
+pub some-found : (q : Term → Bool) (ts : List Term) → anyTerm q ts ≡ true → someTerm q ts ≡ true
+unfolding anyTerm someTerm
+some-found q [] e = absurd (false≢true e)
+some-found q (t ∷ ts) e = e
 
 -- The classes meet a settled condition.
 pub settled-met : (cs : List ℕ) (ts : List Term) → settledBy cs ts ≡ true → meetsCondition (classOf cs) ts ≡ true
-settled-met cs ts = some-also (sharing cs) (holds (classOf cs)) true-too ts
+settled-met cs ts e = some-found (holds (classOf cs)) ts (any-also (sharing cs) (holds (classOf cs)) true-too ts e)
   where
     true-too : (t : Term) → sharing cs t ≡ true → holds (classOf cs) t ≡ true
     true-too (same a b) e = e
@@ -58,7 +64,7 @@ module _ (cs s : List ℕ) where
       → settledBy cs (termsFrom s head) ≡ true
   found-sharing q ok head at l h e =
       ap (settledBy cs) (l .place ∙ ap (λ (ts : List Term). l .passed ++ ts) (terms-step s ok at h (l .within)))
-      ∙ some-here (sharing cs) (l .passed) (termAt s at) (termsFrom s (nextAt s at)) e
+      ∙ any-here (sharing cs) (l .passed) (termAt s at) (termsFrom s (nextAt s at)) e
 
 -- A true term whose lots share a class is a "same" term.
 pub sharing-flag : (cs : List ℕ) (sign a b : ℕ) → eqb (classOf cs a) (classOf cs b) ≡ true → Bool·beq (eqb (classOf cs a) (classOf cs b)) (eqb sign 1) ≡ true
@@ -88,7 +94,7 @@ joined-class x y (z ∷ cs) (suc lot) = joined-class x y cs lot
 
 -- A settled condition stays so in a join,
 settled-joined : (x y : ℕ) (cs : List ℕ) (ts : List Term) → settledBy cs ts ≡ true → settledBy (merged x y cs) ts ≡ true
-settled-joined x y cs ts = some-also (sharing cs) (sharing (merged x y cs)) stays ts
+settled-joined x y cs ts = any-also (sharing cs) (sharing (merged x y cs)) stays ts
   where
     stays : (t : Term) → sharing cs t ≡ true → sharing (merged x y cs) t ≡ true
     stays (same a b) e =
@@ -114,7 +120,7 @@ split-settles : (ds : Decisions) (s : List ℕ) (c a b : ℕ) → node ds (condi
 unfolding node
 split-settles ds s c a b e t =
     ap (settledBy (merged (classOf (classes ds) a) (classOf (classes ds) b) (classes ds))) (first .place)
-    ∙ some-here (sharing (merged (classOf (classes ds) a) (classOf (classes ds) b) (classes ds))) (first .before) (same a b) (first .after) (pair-shares (classes ds) a b)
+    ∙ any-here (sharing (merged (classOf (classes ds) a) (classOf (classes ds) b) (classes ds))) (first .before) (same a b) (first .after) (pair-shares (classes ds) a b)
   where
     first : OpenAt ds (conditionAt s c) a b
     first =

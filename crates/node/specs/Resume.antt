@@ -1,10 +1,12 @@
 -- The node's answer as the definition's, and from where in a condition a visit may go on.
 use Prim.Native.Nat.{ℕ, _≤_}
+use mathlib.Core.Bool.{false}
 use mathlib.Core.List.{List, _∷_, _++_}
 use mathlib.Core.Path.{_≡_}
 use Rattle.sheet.specs.Format.{recordCount, headAt}
 use Rattle.sheet.specs.Conditions.{Term, apart, termsFrom, conditionAt, conditions}
-use Rattle.equality.specs.Node.{Decisions, noCondition, takes, taken, Node, met, ground, split, groundOrSplit}
+use Rattle.equality.specs.Meaning.{anyTerm}
+use Rattle.equality.specs.Node.{Decisions, value, trueOrOpenApart, noCondition, takes, taken, Node, met, ground, split, groundOrSplit}
 use Rattle.node.specs.declared.Node as declared
 use Rattle.node.specs.declared.Node.the-variants.{Met, Ground, Split}
 use Rattle.node.specs.declared.Split as pair
@@ -28,6 +30,10 @@ nodeAs (Ground c) = ground (c .0)
 nodeAs (Split on) = split (on .a .0) (on .b .0)
 
 -- ---- where a visit goes on
+
+-- None of these terms is true or an open "apart" term. They may be what is left of a condition's chain, so the condition is not spoken of (`passedOver`).
+abbrev pub NonePasses : Decisions → List Term → Type 0
+NonePasses ds ts = anyTerm (λ t. trueOrOpenApart t (value ds t)) ts ≡ false
 
 -- The terms from record `from` on are some of which none is open, which alone would make a ground, and then the terms from record r on.
 pub record PassesTo (s : List ℕ) (from r : ℕ) (ds : Decisions) : Type 0 where

@@ -8,7 +8,7 @@ use lib.Dec.{eqb, ltb}
 use lib.ListN.{length, getD}
 use Rattle.sheet.specs.Format.{conditionCount}
 use Rattle.sheet.specs.Conditions.{Term, same, apart, conditionAt}
-use Rattle.equality.specs.Meaning.{someTerm}
+use Rattle.equality.specs.Meaning.{anyTerm}
 use Rattle.equality.specs.Node.{classOf}
 
 -- A "same" term whose lots share a class. They share one under every further decision, where lots of an "apart" term that do not share one may yet.
@@ -18,7 +18,7 @@ sharing cs (apart a b) = false
 
 -- A condition with such a term is settled: no node of a path that goes on from these classes takes it.
 abbrev pub settledBy : List ℕ → List Term → Bool
-settledBy cs ts = someTerm (sharing cs) ts
+settledBy cs ts = anyTerm (sharing cs) ts
 
 -- The marks of a path, one a condition and maybe more after them: 0, or the level at which the condition was seen to be settled, which is none above this one.
 pub record Marked (cs s marks : List ℕ) (level : ℕ) : Type 0 where

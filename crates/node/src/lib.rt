@@ -1,15 +1,14 @@
 // One node of the search: the condition that it takes, and what it is.
-ghost use mathlib.Core.Bool.{false};
 ghost use mathlib.Core.Path.{_≡_};
 ghost use Prim.Native.Nat.{ℕ, _-_, _≤_};
 ghost use lib.ListN.{length, set};
 ghost use Rattle.sheet.specs.Format.{recordCount};
 ghost use Rattle.sheet.specs.Conditions.{termsFrom, conditions};
-ghost use Rattle.equality.specs.Node.{Decisions, classes, passedOver, taken, groundOrSplit, node};
+ghost use Rattle.equality.specs.Node.{Decisions, classes, taken, groundOrSplit, node};
 ghost use Rattle.classes.specs.Pairs.{PairsWithin, Represents};
 ghost use Rattle.node.specs.Settled.{Marked, Later, ClearedAbove};
 ghost use Rattle.node.specs.Scan.{takenAs, TakenWithin, Scannable};
-ghost use Rattle.node.specs.Resume.{openAs, OpenLeaves, nodeAs, ResumesWithin, Resumes, Leaves, StartsWithin, Stands, PlaceWithin};
+ghost use Rattle.node.specs.Resume.{NonePasses, openAs, OpenLeaves, nodeAs, ResumesWithin, Resumes, Leaves, StartsWithin, Stands, PlaceWithin};
 use classes::Classes;
 use sheet::Condition;
 use sheet::Lot;
@@ -128,8 +127,8 @@ pub fn first_open(
     from: Record,
 ) -> Open
     requires { ⌜ Scannable (now sheet) m × PairsWithin (now pairs) count × (from .0 ≤ recordCount (now sheet)) ⌝ }
-    ensures node { λ r. ⌜ ((ds : Decisions) → Represents map (now (pairs .entry)) count ds → passedOver ds (termsFrom (now (sheet .entry)) (from .0)) ≡ false → (c : ℕ) → openAs c r ≡ groundOrSplit ds c (termsFrom (now (sheet .entry)) (from .0))) ⌝ }
-    ensures leaves { λ r. ⌜ ((ds : Decisions) → Represents map (now (pairs .entry)) count ds → passedOver ds (termsFrom (now (sheet .entry)) (from .0)) ≡ false → OpenLeaves (now (sheet .entry)) (from .0) r ds) ⌝ }
+    ensures node { λ r. ⌜ ((ds : Decisions) → Represents map (now (pairs .entry)) count ds → NonePasses ds (termsFrom (now (sheet .entry)) (from .0)) → (c : ℕ) → openAs c r ≡ groundOrSplit ds c (termsFrom (now (sheet .entry)) (from .0))) ⌝ }
+    ensures leaves { λ r. ⌜ ((ds : Decisions) → Represents map (now (pairs .entry)) count ds → NonePasses ds (termsFrom (now (sheet .entry)) (from .0)) → OpenLeaves (now (sheet .entry)) (from .0) r ds) ⌝ }
 {
     let mut at = from;
     while at.0 != 0 {

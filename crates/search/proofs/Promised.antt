@@ -24,7 +24,7 @@ use Rattle.outcome.specs.Nodes.{records}
 use Rattle.store.specs.Records.{encodeAll, recordLength, capacity}
 use Rattle.outcome.specs.Outcome.{Result, refusedResult, fullResult, metResult, cannotResult, metOrCannot, fullOr, resultOf, resultAnswer, groupingAfter, storeAfter, searchOutcome}
 use Rattle.outcome.proofs.Fitting.{bytes-count}
-use Rattle.store.proofs.Grouping as left
+use Rattle.outcome.proofs.Grouping as left
 use Rattle.refutation.specs.Refutation.{Refutes, listVerdict, checkAnswer}
 use Rattle.outcome.proofs.Own.{own-grounds-pass}
 use Rattle.search.specs.declared.SearchAnswer.{SearchAnswer}

@@ -89,12 +89,12 @@ returns c =
     let a = term .term-at .result .a .0 in
     let b = term .term-at .result .b .0 in
     let low = record-number (term .before) in (
-      (λ ds rep unsettled.
-          open-here _ s ok (start .args .from .0) (at .at .0) (at .inv) ds (marked-says rep) unsettled a b low (term-same (marks .before))
+      (λ ds rep none.
+          open-here _ s ok (start .args .from .0) (at .at .0) (at .inv) ds (marked-says rep) none a b low (term-same (marks .before))
           (sym (marks .marked-apart .ensures .1) ∙ not-true _ (c .if3 .taken))),
-      (λ ds rep unsettled.
+      (λ ds rep none.
           subst (λ (r : ℕ). PassesTo s (start .args .from .0) r (apart a b ∷ ds)) (ap (λ (t : Term). t .next .0) (sym (term .term-at .ensures)))
-          (open-leaves _ s ok (start .args .from .0) (at .at .0) (at .inv) ds (marked-says rep) unsettled a b low (term-same (marks .before)))),
+          (open-leaves _ s ok (start .args .from .0) (at .at .0) (at .inv) ds (marked-says rep) none a b low (term-same (marks .before)))),
     )
 
 loop-less : tie.Need-loop-less Inv-loop μ-loop
@@ -119,8 +119,8 @@ returns-2 c =
     let start = c .before .before .before .before .before in
     let s = start .args .sheet .now in
     let ok = start .pre .0 .accepted in (
-      (λ ds rep unsettled. none-open _ s ok (start .args .from .0) (c .before .before .loop .at .0) (c .before .before .loop .inv) ds (marked-says rep) unsettled (c .if1 .left)),
-      (λ ds rep unsettled. tt),
+      (λ ds rep none. none-open _ s ok (start .args .from .0) (c .before .before .loop .at .0) (c .before .before .loop .inv) ds (marked-says rep) none (c .if1 .left)),
+      (λ ds rep none. tt),
     )
 
 pub first-open-spec : {M : Type 1} → statement M

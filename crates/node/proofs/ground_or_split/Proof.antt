@@ -3,7 +3,7 @@ use borrow.Author.Needs.{needs}
 use mathlib.Core.Path.{sym, ap, subst, _∙_}
 use Rattle.node.specs.declared.Open.{Open}
 use Rattle.node.specs.Resume.{openAs, OpenLeaves}
-use Rattle.node.proofs.Resuming.{rest-decides, rest-unsettled, apart-resumes}
+use Rattle.node.proofs.Resuming.{rest-decides, rest-passes, apart-resumes}
 use Rattle.node.proofs.ground_or_split.Statement.{statement}
 use Rattle.node.proofs.ground_or_split.Tie as tie
 
@@ -24,10 +24,10 @@ returns c =
     let d = start .args .c .0 in
     let from = start .args .from .0 in
     let first = c .before .first .given .1 in (
-      (λ ds rep w. ap (openAs d) (sym first) ∙ found .first-open .ensures .0 ds rep (rest-unsettled s d from ds w) d ∙ sym (rest-decides s d from ds w)),
+      (λ ds rep w. ap (openAs d) (sym first) ∙ found .first-open .ensures .0 ds rep (rest-passes s d from ds w) d ∙ sym (rest-decides s d from ds w)),
       (λ ds rep w.
           apart-resumes s d from ds w _ _ _
-          (subst (λ (o : Open). OpenLeaves s from o ds) first (found .first-open .ensures .1 ds rep (rest-unsettled s d from ds w)))),
+          (subst (λ (o : Open). OpenLeaves s from o ds) first (found .first-open .ensures .1 ds rep (rest-passes s d from ds w)))),
     )
 
 returns-2 : tie.Need-returns-2
@@ -37,7 +37,7 @@ returns-2 c =
     let s = start .args .sheet .now in
     let d = start .args .c .0 in
     let from = start .args .from .0 in (
-      (λ ds rep w. ap (openAs d) (sym (c .enum-told .given .1)) ∙ found .first-open .ensures .0 ds rep (rest-unsettled s d from ds w) d ∙ sym (rest-decides s d from ds w)),
+      (λ ds rep w. ap (openAs d) (sym (c .enum-told .given .1)) ∙ found .first-open .ensures .0 ds rep (rest-passes s d from ds w) d ∙ sym (rest-decides s d from ds w)),
       (λ ds rep w. tt),
     )
 

@@ -15,10 +15,11 @@ use Rattle.sheet.proofs.Accepted.{SoundRecord, sound, has-record}
 use Rattle.sheet.proofs.ChainEnds.{rest-shorter}
 use Rattle.equality.specs.Node.{classOf}
 use Rattle.equality.specs.Meaning.{holds, meetsCondition}
+use Rattle.equality.proofs.Some.{some-any}
 use Rattle.equality.proofs.Passing.{Passing, passing-start, found, passing-next, ended}
 use Rattle.node.proofs.Scanning.{Scanning, scanning-start, taken-here, scanning-next, none-taken, taken-by-map, term-flag}
 use Rattle.node.specs.Settled.{settledBy, Marked, Later}
-use Rattle.node.proofs.Settling.{settled-met, found-sharing, sharing-flag, later-none, settled-next}
+use Rattle.node.proofs.Settling.{some-found, settled-met, found-sharing, sharing-flag, later-none, settled-next}
 use Rattle.node.proofs.scan.Statement.{statement}
 use Rattle.node.proofs.scan.Tie as tie
 
@@ -154,7 +155,8 @@ met-here c =
     let s = start .args .sheet .now in
     let head = d .before .before .before in
     ap (λ (r : ℕ). meetsCondition f (termsFrom s r)) (sym (head-of head))
-    ∙ found (holds f) s (start .pre .0 .accepted) (head .head-at .result .0) (d .before .before .terms .at .0) (d .before .before .terms .inv .0) (record-number d) (flag (c .before .before .before .before) ∙ c .if4 .taken)
+    ∙ some-found (holds f) (termsFrom s (head .head-at .result .0))
+    (found (holds f) s (start .pre .0 .accepted) (head .head-at .result .0) (d .before .before .terms .at .0) (d .before .before .terms .inv .0) (record-number d) (flag (c .before .before .before .before) ∙ c .if4 .taken))
 
 -- and one whose lots share a class settles it.
 settled-here : (c : tie.Then5 Inv-terms μ-terms Inv-conditions μ-conditions) → settledBy (c .before .before .before .before .before .before .before .before .before .before .before .before .before .before .before .before .before .args .map .lots) (conditionAt (c .before .before .before .before .before .before .before .before .before .before .before .before .before .before .before .before .before .args .sheet .now) (suc (c .before .before .before .before .before .before .before .before .before .before .before .before .before .conditions .c))) ≡ true
@@ -249,7 +251,7 @@ returns-2 c =
       rw add-one
           (taken-by-map (start .args .map .lots) (conditions s)
           (taken-here f s (outer .conditions .c) (outer .conditions .inv .0) below
-          (ap (λ (r : ℕ). meetsCondition f (termsFrom s r)) (sym (head-of head)) ∙ unmet))),
+          (ap (λ (r : ℕ). meetsCondition f (termsFrom s r)) (sym (head-of head)) ∙ some-any (holds f) (termsFrom s (head .head-at .result .0)) ∙ unmet))),
       (
         (omega arith, omega (arith, below, start .pre .0 .counted)),
         (rw (c .before .before .terms .inv .1) (outer .conditions .inv .1), rw (c .before .before .terms .inv .1) (outer .conditions .inv .2)),
