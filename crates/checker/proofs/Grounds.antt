@@ -25,7 +25,7 @@ use Rattle.checker.proofs.Marks.{marks-say}
 
 -- The classes of a path are lots, and so they are a class map.
 pub classes-within : (ds : Decisions) → ClassesWithin (classes ds)
-classes-within ds lot h = omega (arith, least ds lot h)
+classes-within ds lot h = omega (arith, least ds lot)
 
 pub class-map : (ds : Decisions) → ClassMap (classes ds)
 class-map ds = record { size = classes-length ds; within = classes-within ds }

@@ -110,12 +110,12 @@ module _ (ds : Decisions) (small : All Small ds) (a b : ℕ) (ha : a ≤ mostLot
   Either e = (e ≡ x) ⊎ (e ≡ y)
 
   either-small : (e : ℕ) → Either e → e ≤ mostLots
-  either-small e (inl q) = omega (arith, q, least ds a ha)
-  either-small e (inr q) = omega (arith, q, least ds b hb)
+  either-small e (inl q) = omega (arith, q, least ds a)
+  either-small e (inr q) = omega (arith, q, least ds b)
 
   either-smallest : (e : ℕ) → Either e → smallestLot ds e ≡ e
-  either-smallest e (inl q) = rw q (least-again ds small a ha)
-  either-smallest e (inr q) = rw q (least-again ds small b hb)
+  either-smallest e (inl q) = rw q (least-again ds a)
+  either-smallest e (inr q) = rw q (least-again ds b)
 
   either-joined : (e : ℕ) → Either e → joinedTo x y e ≡ min x y
   either-joined e (inl q) = simp (eq-eqb e x q)
@@ -144,7 +144,7 @@ module _ (ds : Decisions) (small : All Small ds) (a b : ℕ) (ha : a ≤ mostLot
   unfolding isSmallest
   larger-is =
       let becomes : smallestLot (same a b ∷ ds) larger ≡ min x y =
-      same-class ds a b larger (either-small larger larger-either)
+      same-class ds a b larger
       ∙ ap (joinedTo x y) (either-smallest larger larger-either)
       ∙ either-joined larger larger-either in
       ne-eqb (smallestLot (same a b ∷ ds) larger) larger (λ e. eqb-false x y differ (omega (arith, becomes)))
@@ -152,7 +152,7 @@ module _ (ds : Decisions) (small : All Small ds) (a b : ℕ) (ha : a ≤ mostLot
   -- and every other entry is or is not the smallest of a class as before.
   others : (i : ℕ) → i < suc mostLots → (i ≡ larger → ⊥) → isSmallest (classes (same a b ∷ ds)) i ≡ isSmallest (classes ds) i
   unfolding isSmallest
-  others i h other = ap (λ (k : ℕ). eqb k i) (same-class ds a b i (omega arith)) ∙ go (eqb (smallestLot ds i) x || eqb (smallestLot ds i) y) refl
+  others i h other = ap (λ (k : ℕ). eqb k i) (same-class ds a b i) ∙ go (eqb (smallestLot ds i) x || eqb (smallestLot ds i) y) refl
     where
       by : Either (smallestLot ds i) → (p : Bool) → eqb (min x y) i ≡ p → p ≡ eqb (smallestLot ds i) i
       by e true q =
@@ -199,5 +199,5 @@ joined-and-left (same a b ∷ ds) small = go (share ds a b) refl (joined-and-lef
 pub joins-most : (ds : Decisions) → All Small ds → joins ds ≤ mostLots
 unfolding left isSmallest
 joins-most ds small =
-    let first : isSmallest (classes ds) 0 ≡ true = eq-eqb (smallestLot ds 0) 0 (omega (arith, least ds 0 (omega arith))) in
+    let first : isSmallest (classes ds) 0 ≡ true = eq-eqb (smallestLot ds 0) 0 (omega (arith, least ds 0)) in
     omega (arith, joined-and-left ds small, count-first (isSmallest (classes ds)) mostLots first)

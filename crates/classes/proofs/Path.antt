@@ -119,8 +119,8 @@ module _ {c : Classes} {bytes : List ℕ} {count : ℕ} {ds : Decisions} (r : Re
       rw (r .lots, ← r .pairs) (sym (marked-only (classes ds) ds (smallestLot ds a) (smallestLot ds b)))
 
   -- A lot's entry is the least lot of its class: it is in the class, and at most any lot of it.
-  pub entry-in-class : All Small ds → (lot : ℕ) → lot ≤ mostLots → classOf (c .lots) (classOf (c .lots) lot) ≡ classOf (c .lots) lot
-  entry-in-class small lot h = rw (r .lots) (least-again ds small lot h)
+  pub entry-in-class : (lot : ℕ) → classOf (c .lots) (classOf (c .lots) lot) ≡ classOf (c .lots) lot
+  entry-in-class lot = rw (r .lots) (least-again ds lot)
 
-  pub entry-least : (lot other : ℕ) → other ≤ mostLots → classOf (c .lots) other ≡ classOf (c .lots) lot → classOf (c .lots) lot ≤ other
-  entry-least lot other h e = omega (arith, smallest-says other, least ds other h)
+  pub entry-least : (lot other : ℕ) → classOf (c .lots) other ≡ classOf (c .lots) lot → classOf (c .lots) lot ≤ other
+  entry-least lot other e = omega (arith, smallest-says other, least ds other)

@@ -9,15 +9,15 @@ use native.Mathlib.Omega.{arith}
 use Rattle.sheet.specs.Conditions.{Term, same, apart}
 use Rattle.buffers.specs.Lists.{All}
 use Rattle.equality.specs.Meaning.{anyTerm}
-use Rattle.equality.specs.Node.{Decisions, markedApart, Value, isTrue, isFalse, isOpen, value}
+use Rattle.equality.specs.Node.{Decisions, markedApart, Value, isTrue, isFalse, isOpen, value, split, node}
 use Rattle.equality.specs.Search.{sameTerms, nodeCount, searchTree, branching}
 use Rattle.equality.proofs.Tests.{or-cases}
-use Rattle.equality.specs.Opens.{Small, closed, opens}
+use Rattle.equality.specs.Opens.{closed, opens}
 use Rattle.equality.proofs.Node.{openSame, taken-values}
-use Rattle.equality.proofs.Steps.{SmallPair, same-closed, apart-closed, same-shares, apart-closes, open-not-closed}
+use Rattle.equality.proofs.Steps.{same-closed, apart-closed, same-shares, apart-closes, open-not-closed}
 use Rattle.equality.proofs.Truth.{same-true, apart-true}
-use Rattle.equality.proofs.Rule.{SplitAt}
-use Rattle.equality.proofs.Opens.{opens-same, opens-fall, opens-fewer, Further, pair-small}
+use Rattle.equality.proofs.Rule.{split-at}
+use Rattle.equality.proofs.Opens.{opens-same, opens-fall, opens-fewer, Further}
 use Rattle.equality.proofs.Bounds.{search-count}
 
 -- ---- φ
@@ -59,30 +59,30 @@ true-value isOpen e = absurd (false≢true e)
 -- Closed pairs stay closed and true terms stay true.
 pub record Grows (ds ds′ : Decisions) : Type 0 where
   pub closes : Further ds ds′
-  pub trues : (t : Term) → Small t → value ds t ≡ isTrue → value ds′ t ≡ isTrue
+  pub trues : (t : Term) → value ds t ≡ isTrue → value ds′ t ≡ isTrue
 
 module _ (ds ds′ : Decisions) (grows : Grows ds ds′) where
-  has-true-stays : (ts : List Term) → All Small ts → hasTrue ds ts ≡ true → hasTrue ds′ ts ≡ true
+  has-true-stays : (ts : List Term) → hasTrue ds ts ≡ true → hasTrue ds′ ts ≡ true
   unfolding anyTerm
-  has-true-stays [] small e = absurd (false≢true e)
-  has-true-stays (t ∷ ts) small e =
+  has-true-stays [] e = absurd (false≢true e)
+  has-true-stays (t ∷ ts) e =
       or-cases (isTrueValue (value ds t)) (hasTrue ds ts) e
-      (λ h. rw (grows .trues t (small .0) (true-value (value ds t) h)))
-      (λ h. simp (has-true-stays ts (small .1) h, or-true))
+      (λ h. rw (grows .trues t (true-value (value ds t) h)))
+      (λ h. simp (has-true-stays ts h, or-true))
 
-  weight-falls : (ts : List Term) → All Small ts → weight ds′ ts ≤ weight ds ts
-  weight-falls ts small = go (hasTrue ds ts) (hasTrue ds′ ts) refl refl
+  weight-falls : (ts : List Term) → weight ds′ ts ≤ weight ds ts
+  weight-falls ts = go (hasTrue ds ts) (hasTrue ds′ ts) refl refl
     where
       go : (p q : Bool) → hasTrue ds ts ≡ p → hasTrue ds′ ts ≡ q → cond q 1 (suc (opens ds′ ts)) ≤ cond p 1 (suc (opens ds ts))
       go true true ep eq = omega arith
-      go true false ep eq = absurd (false≢true (sym eq ∙ has-true-stays ts small ep))
+      go true false ep eq = absurd (false≢true (sym eq ∙ has-true-stays ts ep))
       go false true ep eq = omega arith
-      go false false ep eq = omega (arith, opens-fall ds ds′ (grows .closes) ts small)
+      go false false ep eq = omega (arith, opens-fall ds ds′ (grows .closes) ts)
 
-  weights-fall : (tss : List (List Term)) → All (All Small) tss → weights ds′ tss ≤ weights ds tss
+  weights-fall : (tss : List (List Term)) → weights ds′ tss ≤ weights ds tss
   unfolding weights
-  weights-fall [] small = omega arith
-  weights-fall (ts ∷ tss) small = mul-le-mul (weight-falls ts (small .0)) (weights-fall tss (small .1))
+  weights-fall [] = omega arith
+  weights-fall (ts ∷ tss) = mul-le-mul (weight-falls ts) (weights-fall tss)
 
 -- ---- sums of products
 
@@ -110,45 +110,45 @@ no-true ds (t ∷ ts) values = rw (values .0) (rw (not-true-one t) (no-true ds t
         go false = refl
     not-true-one (apart a b) = refl
 
-module _ (ds : Decisions) (small : All Small ds) (a b : ℕ) (pair : SmallPair a b) (open′ : closed ds a b ≡ false) where
+module _ (ds : Decisions) (a b : ℕ) (open′ : closed ds a b ≡ false) where
   same-grows : Grows ds (same a b ∷ ds)
-  same-grows = record { closes = same-closed ds a b small; trues = same-true ds small a b open′ }
+  same-grows = record { closes = same-closed ds a b; trues = same-true ds a b open′ }
 
   apart-grows : Grows ds (apart a b ∷ ds)
-  apart-grows = record { closes = λ u v _ e. apart-closed ds a b u v e; trues = λ t _ e. apart-true ds small a b open′ t e }
+  apart-grows = record { closes = apart-closed ds a b; trues = apart-true ds a b open′ }
 
   now-true : (before after : List Term) → hasTrue (same a b ∷ ds) (before ++ same a b ∷ after) ≡ true
   unfolding anyTerm value
-  now-true [] after = simp (same-shares ds a b pair)
+  now-true [] after = simp (same-shares ds a b)
   now-true (t ∷ before) after = simp (now-true before after, or-true)
 
-  taken-shares : (before after : List Term) → All Small (before ++ same a b ∷ after) → hasTrue ds (before ++ same a b ∷ after) ≡ false
+  taken-shares : (before after : List Term) → hasTrue ds (before ++ same a b ∷ after) ≡ false
       → weight (same a b ∷ ds) (before ++ same a b ∷ after) + weight (apart a b ∷ ds) (before ++ same a b ∷ after)
       ≤ weight ds (before ++ same a b ∷ after)
-  taken-shares before after smallTerms none =
+  taken-shares before after none =
       rw (now-true before after) (rw none (go (hasTrue (apart a b ∷ ds) (before ++ same a b ∷ after))))
     where
       fewer : opens (apart a b ∷ ds) (before ++ same a b ∷ after) < opens ds (before ++ same a b ∷ after)
-      fewer = opens-fewer ds (apart a b ∷ ds) (apart-grows .closes) a b open′ (apart-closes ds a b) before after smallTerms
+      fewer = opens-fewer ds (apart a b ∷ ds) (apart-grows .closes) a b open′ (apart-closes ds a b) before after
 
       go : (p : Bool) → 1 + cond p 1 (suc (opens (apart a b ∷ ds) (before ++ same a b ∷ after))) ≤ suc (opens ds (before ++ same a b ∷ after))
       go true = omega (arith, fewer)
       go false = omega (arith, fewer)
 
-  all-share : (front back : List (List Term)) (before after : List Term) → All (All Small) (front ++ (before ++ same a b ∷ after) ∷ back)
+  all-share : (front back : List (List Term)) (before after : List Term)
       → hasTrue ds (before ++ same a b ∷ after) ≡ false
       → weights (same a b ∷ ds) (front ++ (before ++ same a b ∷ after) ∷ back) + weights (apart a b ∷ ds) (front ++ (before ++ same a b ∷ after) ∷ back)
       ≤ weights ds (front ++ (before ++ same a b ∷ after) ∷ back)
   unfolding weights
-  all-share [] back before after smalls none =
-      share-first _ _ _ _ _ _ (taken-shares before after (smalls .0) none)
-      (weights-fall ds (same a b ∷ ds) same-grows back (smalls .1))
-      (weights-fall ds (apart a b ∷ ds) apart-grows back (smalls .1))
-  all-share (ts ∷ front) back before after smalls none =
+  all-share [] back before after none =
+      share-first _ _ _ _ _ _ (taken-shares before after none)
+      (weights-fall ds (same a b ∷ ds) same-grows back)
+      (weights-fall ds (apart a b ∷ ds) apart-grows back)
+  all-share (ts ∷ front) back before after none =
       share-second _ _ _ _ _ _
-      (weight-falls ds (same a b ∷ ds) same-grows ts (smalls .0))
-      (weight-falls ds (apart a b ∷ ds) apart-grows ts (smalls .0))
-      (all-share front back before after (smalls .1) none)
+      (weight-falls ds (same a b ∷ ds) same-grows ts)
+      (weight-falls ds (apart a b ∷ ds) apart-grows ts)
+      (all-share front back before after none)
 
 -- ---- the instance
 
@@ -164,22 +164,21 @@ unfolding weights branching
 first-weights [] = omega arith
 first-weights (ts ∷ tss) = mul-le-mul (first-weight ts) (first-weights tss)
 
-module _ (tss : List (List Term)) (smalls : All (All Small) tss) where
-  split-shares : (ds : Decisions) → All Small ds → (a b : ℕ) → SplitAt ds tss a b
-      → weights (same a b ∷ ds) tss + weights (apart a b ∷ ds) tss ≤ weights ds tss
-  split-shares ds small a b at =
+module _ (tss : List (List Term)) where
+  split-shares : (ds : Decisions) (a b : ℕ) → node ds tss ≡ split a b → weights (same a b ∷ ds) tss + weights (apart a b ∷ ds) tss ≤ weights ds tss
+  split-shares ds a b e =
+      let at = split-at ds tss a b e in
       let placed = at .taken .place ∙ ap (λ (ts : List Term). at .taken .front ++ ts ∷ at .taken .back) (at .first .place) in
       let none = no-true ds (at .terms) (taken-values ds (at .terms) (at .taken .unmet)) in
       rw placed
-      (all-share ds small a b (pair-small ds small tss smalls a b at) (open-not-closed ds (same a b) (at .first .opened))
+      (all-share ds a b (open-not-closed ds (same a b) (at .first .opened))
       (at .taken .front)
       (at .taken .back)
       (at .first .before)
       (at .first .after)
-      (rw placed at smalls)
       (rw (at .first .place) at none))
 
   -- Theorem 5: the nodes are at most 2 × P − 1.
   pub search-branching : suc (nodeCount (searchTree tss)) ≤ branching tss + branching tss
   search-branching =
-      omega (arith, search-count tss smalls (λ ds. weights ds tss) (λ ds. weights-positive ds tss) split-shares, first-weights tss)
+      omega (arith, search-count tss (λ ds. weights ds tss) (λ ds. weights-positive ds tss) split-shares, first-weights tss)

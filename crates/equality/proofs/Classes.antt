@@ -19,10 +19,11 @@ use Rattle.equality.proofs.Tests.{or-cases, and-true-both}
 
 -- ---- entries
 
-pub getD-map : (g : ℕ → ℕ) (l : List ℕ) (i : ℕ) → i < length l → getD (map g l) i 0 ≡ g (getD l i 0)
-getD-map g [] i h = absurd (omega arith)
-getD-map g (x ∷ l) zero h = refl
-getD-map g (x ∷ l) (suc i) h = getD-map g l i (omega arith)
+-- A list whose entries are renamed; past its end both sides are 0.
+pub getD-map : (g : ℕ → ℕ) → g 0 ≡ 0 → (l : List ℕ) (i : ℕ) → getD (map g l) i 0 ≡ g (getD l i 0)
+getD-map g e [] i = sym e
+getD-map g e (x ∷ l) zero = refl
+getD-map g e (x ∷ l) (suc i) = getD-map g e l i
 
 pub classes-length : (ds : Decisions) → length (classes ds) ≡ suc mostLots
 unfolding classes merged
@@ -34,11 +35,19 @@ classes-length (apart a b ∷ ds) = classes-length ds
 abbrev pub joinedTo : ℕ → ℕ → ℕ → ℕ
 joinedTo x y z = cond (eqb z x || eqb z y) (min x y) z
 
--- A lot's class after a pair is set same, and after a pair is set apart.
-pub same-class : (ds : Decisions) (a b lot : ℕ) → lot ≤ mostLots
+pub joined-zero : (x y : ℕ) → joinedTo x y 0 ≡ 0
+joined-zero x y = go (eqb 0 x) (eqb 0 y) refl refl
+  where
+    go : (p q : Bool) → eqb 0 x ≡ p → eqb 0 y ≡ q → cond (p || q) (min x y) 0 ≡ 0
+    go true q ex ey = omega (arith, eqb-true 0 x ex)
+    go false true ex ey = omega (arith, eqb-true 0 y ey)
+    go false false ex ey = refl
+
+-- A lot's class after a pair is set same, and after a pair is set apart. A number that is no lot counts as class 0.
+pub same-class : (ds : Decisions) (a b lot : ℕ)
     → smallestLot (same a b ∷ ds) lot ≡ joinedTo (smallestLot ds a) (smallestLot ds b) (smallestLot ds lot)
 unfolding classes merged
-same-class ds a b lot h = getD-map _ (classes ds) lot (omega (arith, classes-length ds))
+same-class ds a b lot = getD-map _ (joined-zero (smallestLot ds a) (smallestLot ds b)) (classes ds) lot
 
 pub apart-class : (ds : Decisions) (a b lot : ℕ) → smallestLot (apart a b ∷ ds) lot ≡ smallestLot ds lot
 unfolding classes
@@ -53,6 +62,16 @@ countUp-at (suc n) from (suc i) h = countUp-at n (suc from) i (omega arith) ∙ 
 pub no-class : (lot : ℕ) → lot ≤ mostLots → smallestLot [] lot ≡ lot
 unfolding classes
 no-class lot h = countUp-at (suc mostLots) 0 lot (omega arith) ∙ omega arith
+
+countUp-past : (n from i : ℕ) → n ≤ i → getD (countUp n from) i 0 ≡ 0
+unfolding countUp
+countUp-past zero from i h = refl
+countUp-past (suc n) from zero h = absurd (omega arith)
+countUp-past (suc n) from (suc i) h = countUp-past n (suc from) i (omega arith)
+
+pub past-class : (lot : ℕ) → mostLots < lot → smallestLot [] lot ≡ 0
+unfolding classes
+past-class lot h = countUp-past (suc mostLots) 0 lot (omega arith)
 
 -- ---- what an assignment that respects the decisions makes of classes and marks
 
@@ -83,7 +102,7 @@ module _ {A : Type 0} (f : ℕ → A) where
   class-value [] small holds lot h = ap f (no-class lot h)
   class-value (same a b ∷ ds) small holds lot h =
       let before = class-value ds (small .1) (holds .1) in
-      ap f (same-class ds a b lot h)
+      ap f (same-class ds a b lot)
       ∙ joined-value _ _ _ (before a (small .0 .0) ∙ holds .0 ∙ sym (before b (small .0 .1)))
       ∙ before lot h
   class-value (apart a b ∷ ds) small holds lot h =

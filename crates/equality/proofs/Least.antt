@@ -5,14 +5,12 @@ use mathlib.Core.Logic.{_⊎_, inl, inr, ⊎-elim}
 use mathlib.Core.List.{[], _∷_}
 use mathlib.Core.Path.{_≡_, refl, sym, ap, _∙_}
 use native.Mathlib.Omega.{arith}
-use borrow.Author.Tests.{eqb-true, eq-eqb}
-use lib.Dec.{eqb}
+use borrow.Author.Tests.{eqb-true, eq-eqb, leb-true, leb-false}
+use lib.Dec.{eqb, leb}
 use Rattle.sheet.specs.Format.{mostLots}
 use Rattle.sheet.specs.Conditions.{same, apart}
-use Rattle.buffers.specs.Lists.{All}
 use Rattle.equality.specs.Node.{Decisions, smallestLot}
-use Rattle.equality.specs.Opens.{Small}
-use Rattle.equality.proofs.Classes.{joinedTo, no-class, same-class, apart-class, min-either}
+use Rattle.equality.proofs.Classes.{joinedTo, no-class, past-class, same-class, apart-class, min-either}
 
 joined-least : (x y z : ℕ) → joinedTo x y z ≤ z
 joined-least x y z = go (eqb z x) (eqb z y) refl refl
@@ -23,10 +21,17 @@ joined-least x y z = go (eqb z x) (eqb z y) refl refl
     go false false ex ey = omega arith
 
 -- It is at most the lot,
-pub least : (ds : Decisions) (lot : ℕ) → lot ≤ mostLots → smallestLot ds lot ≤ lot
-least [] lot h = omega (arith, no-class lot h)
-least (same a b ∷ ds) lot h = omega (arith, same-class ds a b lot h, joined-least (smallestLot ds a) (smallestLot ds b) (smallestLot ds lot), least ds lot h)
-least (apart a b ∷ ds) lot h = omega (arith, apart-class ds a b lot, least ds lot h)
+no-least : (lot : ℕ) → smallestLot [] lot ≤ lot
+no-least lot = go (leb lot mostLots) refl
+  where
+    go : (p : Bool) → leb lot mostLots ≡ p → smallestLot [] lot ≤ lot
+    go true e = omega (arith, no-class lot (leb-true lot mostLots e))
+    go false e = omega (arith, past-class lot (leb-false lot mostLots e))
+
+pub least : (ds : Decisions) (lot : ℕ) → smallestLot ds lot ≤ lot
+least [] lot = no-least lot
+least (same a b ∷ ds) lot = omega (arith, same-class ds a b lot, joined-least (smallestLot ds a) (smallestLot ds b) (smallestLot ds lot), least ds lot)
+least (apart a b ∷ ds) lot = omega (arith, apart-class ds a b lot, least ds lot)
 
 -- and it is in the class.
 joined-either : (x y z : ℕ) → (joinedTo x y z ≡ z) ⊎ ((joinedTo x y z ≡ x) ⊎ (joinedTo x y z ≡ y))
@@ -46,27 +51,34 @@ joined-twice x y z = go (eqb z x || eqb z y) refl
     go true e = smaller
     go false e = simp e
 
-pub least-again : (ds : Decisions) → All Small ds → (lot : ℕ) → lot ≤ mostLots → smallestLot ds (smallestLot ds lot) ≡ smallestLot ds lot
-least-again [] small lot h = no-class (smallestLot [] lot) (omega (arith, no-class lot h))
-least-again (apart a b ∷ ds) small lot h =
+no-least-again : (lot : ℕ) → smallestLot [] (smallestLot [] lot) ≡ smallestLot [] lot
+no-least-again lot = go (leb lot mostLots) refl
+  where
+    go : (p : Bool) → leb lot mostLots ≡ p → smallestLot [] (smallestLot [] lot) ≡ smallestLot [] lot
+    go true e = ap (smallestLot []) (no-class lot (leb-true lot mostLots e))
+    go false e = let out = past-class lot (leb-false lot mostLots e) in ap (smallestLot []) out ∙ no-class 0 (omega arith) ∙ sym out
+
+pub least-again : (ds : Decisions) (lot : ℕ) → smallestLot ds (smallestLot ds lot) ≡ smallestLot ds lot
+least-again [] lot = no-least-again lot
+least-again (apart a b ∷ ds) lot =
     apart-class ds a b (smallestLot (apart a b ∷ ds) lot)
     ∙ ap (smallestLot ds) (apart-class ds a b lot)
-    ∙ least-again ds (small .1) lot h
+    ∙ least-again ds lot
     ∙ sym (apart-class ds a b lot)
-least-again (same a b ∷ ds) small lot h =
+least-again (same a b ∷ ds) lot =
     let x = smallestLot ds a in
     let y = smallestLot ds b in
     let z = smallestLot ds lot in
-    let joined = same-class ds a b lot h in
-    let fixed : smallestLot ds (joinedTo x y z) ≡ joinedTo x y z = stays (least-again ds (small .1)) (joinedTo x y z) (joined-either x y z) in
-    same-class ds a b (smallestLot (same a b ∷ ds) lot) (omega (arith, least (same a b ∷ ds) lot h))
+    let joined = same-class ds a b lot in
+    let fixed : smallestLot ds (joinedTo x y z) ≡ joinedTo x y z = stays (least-again ds) (joinedTo x y z) (joined-either x y z) in
+    same-class ds a b (smallestLot (same a b ∷ ds) lot)
     ∙ ap (λ (e : ℕ). joinedTo x y (smallestLot ds e)) joined
     ∙ ap (joinedTo x y) fixed
     ∙ joined-twice x y z
     ∙ sym joined
   where
-    stays : ((l : ℕ) → l ≤ mostLots → smallestLot ds (smallestLot ds l) ≡ smallestLot ds l)
+    stays : ((l : ℕ) → smallestLot ds (smallestLot ds l) ≡ smallestLot ds l)
         → (e : ℕ) → (e ≡ smallestLot ds lot) ⊎ ((e ≡ smallestLot ds a) ⊎ (e ≡ smallestLot ds b)) → smallestLot ds e ≡ e
-    stays again e (inl q) = rw q (again lot h)
-    stays again e (inr (inl q)) = rw q (again a (small .0 .0))
-    stays again e (inr (inr q)) = rw q (again b (small .0 .1))
+    stays again e (inl q) = rw q (again lot)
+    stays again e (inr (inl q)) = rw q (again a)
+    stays again e (inr (inr q)) = rw q (again b)

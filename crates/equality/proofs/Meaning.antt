@@ -48,7 +48,7 @@ pub condition-decides : (f : ℕ → ℕ) (ts : List Term) → Decides (meetsCon
 condition-decides f ts = some-decides (holds f) (Holds f) (holds-decides f) ts
 
 pub all-decides : (f : ℕ → ℕ) (tss : List (List Term)) → Decides (meetsAll f tss) (MeetsAll f tss)
-unfolding meetsAll MeetsAll
+unfolding meetsAll
 all-decides f [] = (λ _. tt, λ _. refl)
 all-decides f (ts ∷ tss) = decides-both (meetsCondition f ts) (meetsAll f tss) (condition-decides f ts) (all-decides f tss)
 

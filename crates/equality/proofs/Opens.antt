@@ -10,8 +10,8 @@ use Rattle.buffers.specs.Lists.{All}
 use Rattle.buffers.proofs.Lists.{all-at}
 use Rattle.equality.specs.Node.{Decisions}
 use Rattle.equality.specs.Search.{sameTerms, allSameTerms}
-use Rattle.equality.specs.Opens.{Small, closed, openCount, opens, allOpens}
-use Rattle.equality.proofs.Steps.{SmallPair, open-not-closed, same-closed, apart-closed, same-closes, apart-closes}
+use Rattle.equality.specs.Opens.{closed, openCount, opens, allOpens}
+use Rattle.equality.proofs.Steps.{open-not-closed, same-closed, apart-closed, same-closes, apart-closes}
 use Rattle.equality.proofs.Rule.{SplitAt}
 
 -- They are at most the "same" terms.
@@ -34,46 +34,46 @@ opens-all-same ds (ts ∷ tss) = omega (arith, opens-same ds ts, opens-all-same 
 
 -- Whatever was closed stays closed.
 abbrev pub Further : Decisions → Decisions → Type 0
-Further ds ds′ = (u v : ℕ) → SmallPair u v → closed ds u v ≡ true → closed ds′ u v ≡ true
+Further ds ds′ = (u v : ℕ) → closed ds u v ≡ true → closed ds′ u v ≡ true
 
 module _ (ds ds′ : Decisions) (further : Further ds ds′) where
-  count-falls : (t : Term) → Small t → openCount ds′ t ≤ openCount ds t
-  count-falls (apart a b) h = omega arith
-  count-falls (same a b) h = go (closed ds a b) (closed ds′ a b) refl refl
+  count-falls : (t : Term) → openCount ds′ t ≤ openCount ds t
+  count-falls (apart a b) = omega arith
+  count-falls (same a b) = go (closed ds a b) (closed ds′ a b) refl refl
     where
       go : (p q : Bool) → closed ds a b ≡ p → closed ds′ a b ≡ q → cond q 0 1 ≤ cond p 0 1
       go p true ep eq = zero≤
-      go true false ep eq = absurd (false≢true (sym eq ∙ further a b h ep))
+      go true false ep eq = absurd (false≢true (sym eq ∙ further a b ep))
       go false false ep eq = omega arith
 
-  pub opens-fall : (ts : List Term) → All Small ts → opens ds′ ts ≤ opens ds ts
+  pub opens-fall : (ts : List Term) → opens ds′ ts ≤ opens ds ts
   unfolding opens
-  opens-fall [] small = omega arith
-  opens-fall (t ∷ ts) small = omega (arith, count-falls t (small .0), opens-fall ts (small .1))
+  opens-fall [] = omega arith
+  opens-fall (t ∷ ts) = omega (arith, count-falls t, opens-fall ts)
 
-  pub all-opens-fall : (tss : List (List Term)) → All (All Small) tss → allOpens ds′ tss ≤ allOpens ds tss
+  pub all-opens-fall : (tss : List (List Term)) → allOpens ds′ tss ≤ allOpens ds tss
   unfolding allOpens
-  all-opens-fall [] small = omega arith
-  all-opens-fall (ts ∷ tss) small = omega (arith, opens-fall ts (small .0), all-opens-fall tss (small .1))
+  all-opens-fall [] = omega arith
+  all-opens-fall (ts ∷ tss) = omega (arith, opens-fall ts, all-opens-fall tss)
 
   -- A "same" term that was open and is closed makes them fewer.
   module _ (a b : ℕ) (open′ : closed ds a b ≡ false) (closed′ : closed ds′ a b ≡ true) where
-    pub opens-fewer : (before after : List Term) → All Small (before ++ same a b ∷ after)
+    pub opens-fewer : (before after : List Term)
         → opens ds′ (before ++ same a b ∷ after) < opens ds (before ++ same a b ∷ after)
     unfolding opens
-    opens-fewer [] after small = simp (open′, closed′) (omega (arith, opens-fall after (small .1)))
-    opens-fewer (t ∷ before) after small = omega (arith, count-falls t (small .0), opens-fewer before after (small .1))
+    opens-fewer [] after = simp (open′, closed′) (omega (arith, opens-fall after))
+    opens-fewer (t ∷ before) after = omega (arith, count-falls t, opens-fewer before after)
 
-    pub all-opens-fewer : (front back : List (List Term)) (before after : List Term) → All (All Small) (front ++ (before ++ same a b ∷ after) ∷ back)
+    pub all-opens-fewer : (front back : List (List Term)) (before after : List Term)
         → allOpens ds′ (front ++ (before ++ same a b ∷ after) ∷ back) < allOpens ds (front ++ (before ++ same a b ∷ after) ∷ back)
     unfolding allOpens
-    all-opens-fewer [] back before after small = omega (arith, opens-fewer before after (small .0), all-opens-fall back (small .1))
-    all-opens-fewer (ts ∷ front) back before after small =
-        omega (arith, opens-fall ts (small .0), all-opens-fewer front back before after (small .1))
+    all-opens-fewer [] back before after = omega (arith, opens-fewer before after, all-opens-fall back)
+    all-opens-fewer (ts ∷ front) back before after =
+        omega (arith, opens-fall ts, all-opens-fewer front back before after)
 
 -- ---- at a split
 
-module _ (ds : Decisions) (small : All Small ds) (tss : List (List Term)) (smalls : All (All Small) tss) (a b : ℕ) (at : SplitAt ds tss a b) where
+module _ (ds : Decisions) (tss : List (List Term)) (a b : ℕ) (at : SplitAt ds tss a b) where
   -- The conditions, with the taken one and its first open term in their places.
   placed : List (List Term)
   placed = at .taken .front ++ (at .first .before ++ same a b ∷ at .first .after) ∷ at .taken .back
@@ -82,12 +82,11 @@ module _ (ds : Decisions) (small : All Small ds) (tss : List (List Term)) (small
   unfolding placed
   tss-placed = at .taken .place ∙ ap (λ (ts : List Term). at .taken .front ++ ts ∷ at .taken .back) (at .first .place)
 
-  placed-small : All (All Small) placed
-  placed-small = rw tss-placed at smalls
-
-  pub pair-small : SmallPair a b
+  -- What holds of every term holds of the split's.
+  pub split-all : (P : Term → Type 0) → All (All P) tss → P (same a b)
   unfolding placed
-  pair-small = all-at Small (at .first .before) (same a b) (at .first .after) (all-at (All Small) (at .taken .front) _ (at .taken .back) placed-small)
+  split-all P all =
+      all-at P (at .first .before) (same a b) (at .first .after) (all-at (All P) (at .taken .front) _ (at .taken .back) (rw tss-placed at all))
 
   pair-open : closed ds a b ≡ false
   pair-open = open-not-closed ds (same a b) (at .first .opened)
@@ -96,11 +95,11 @@ module _ (ds : Decisions) (small : All Small ds) (tss : List (List Term)) (small
   unfolding placed
   fewer ds′ further closed′ =
       rw tss-placed
-      (all-opens-fewer ds ds′ further a b pair-open closed′ (at .taken .front) (at .taken .back) (at .first .before) (at .first .after) placed-small)
+      (all-opens-fewer ds ds′ further a b pair-open closed′ (at .taken .front) (at .taken .back) (at .first .before) (at .first .after))
 
   -- Theorem 4: open "same" terms fall in both branches.
   pub same-fewer : allOpens (same a b ∷ ds) tss < allOpens ds tss
-  same-fewer = fewer (same a b ∷ ds) (same-closed ds a b small) (same-closes ds a b pair-small)
+  same-fewer = fewer (same a b ∷ ds) (same-closed ds a b) (same-closes ds a b)
 
   pub apart-fewer : allOpens (apart a b ∷ ds) tss < allOpens ds tss
-  apart-fewer = fewer (apart a b ∷ ds) (λ u v _ e. apart-closed ds a b u v e) (apart-closes ds a b)
+  apart-fewer = fewer (apart a b ∷ ds) (apart-closed ds a b) (apart-closes ds a b)

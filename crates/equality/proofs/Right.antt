@@ -17,8 +17,8 @@ use Rattle.equality.specs.Opens.{Small}
 use Rattle.equality.proofs.Classes.{Says, value-says}
 use Rattle.equality.proofs.Node.{passed-by-classes}
 use Rattle.equality.proofs.Rule.{GroundAt, met-passed, ground-at, ground-false, split-at}
-use Rattle.buffers.proofs.Lists.{all-at}
-use Rattle.equality.proofs.Opens.{pair-small}
+use Rattle.buffers.proofs.Lists.{all-two, all-at}
+use Rattle.equality.proofs.Opens.{split-all}
 use Rattle.equality.specs.Visits.{Visits, visits-met, visits-ground, visits-one, visits-two}
 use Rattle.equality.proofs.Visits.{met-rule, search-visits}
 
@@ -35,24 +35,15 @@ met-meets tss {t = t} v m = passed-meets (metDecisions t) tss (met-passed (metDe
 
 -- ---- cannot
 
-meets-at : {A : Type 0} (f : ℕ → A) (front : List (List Term)) (ts : List Term) (back : List (List Term))
-    → MeetsAll f (front ++ ts ∷ back) → MeetsCondition f ts
-unfolding MeetsAll
-meets-at f [] ts back h = h .0
-meets-at f (us ∷ front) ts back h = meets-at f front ts back (h .1)
-
 module _ {A : Type 0} (decide : (x y : A) → Dec (x ≡ y)) (f : ℕ → A) (tss : List (List Term)) (smalls : All (All Small) tss) where
   -- At a ground every term of the condition is false of an assignment that respects the decisions, so it does not meet the condition.
   pub ground-unmet : (ds : Decisions) → All Small ds → Respects f ds → (ts : List Term) → All Small ts
       → passedOver ds ts ≡ false → All (λ t. value ds t ≡ isFalse) ts → ¬ MeetsCondition f ts
   ground-unmet ds small respects ts smallTerms unmet allFalse =
-      none-some (λ t. trueOrOpenApart t (value ds t)) (Holds f) ts unmet (falses ts smallTerms allFalse)
+      none-some (λ t. trueOrOpenApart t (value ds t)) (Holds f) ts unmet (all-two false-says ts smallTerms allFalse)
     where
-      falses : (ts : List Term) → All Small ts → All (λ t. value ds t ≡ isFalse) ts → All (λ t. ¬ Holds f t) ts
-      falses [] small′ all = tt
-      falses (t ∷ ts) small′ all =
-          let says : Says f ds small respects isFalse t = rw (all .0) at (value-says f ds small respects t (small′ .0)) in
-          (says, falses ts (small′ .1) (all .1))
+      false-says : (t : Term) → Small t → value ds t ≡ isFalse → ¬ Holds f t
+      false-says t small′ false′ = let says : Says f ds small respects isFalse t = rw false′ at (value-says f ds small respects t small′) in says
 
   -- Theorem 3, under any decisions.
   pub cannot-under : {ds : Decisions} {t : Tree} → Visits (nodeRule tss) ds t → isMet t ≡ false → All Small ds → Respects f ds → ¬ MeetsAll f tss
@@ -67,10 +58,10 @@ module _ {A : Type 0} (decide : (x y : A) → Dec (x ≡ y)) (f : ℕ → A) (ts
           (all-at (All Small) (at .taken .front) (at .terms) (at .taken .back) (rw placed at smalls))
           (at .taken .unmet)
           (ground-false at)
-          (meets-at f (at .taken .front) (at .terms) (at .taken .back) (rw placed at meets′))
+          (all-at (MeetsCondition f) (at .taken .front) (at .terms) (at .taken .back) (rw placed at meets′))
   cannot-under (visits-one e v q) m small respects meets′ = false≢true (sym m ∙ q)
   cannot-under {ds} (visits-two {a = a} {b = b} e v q w) m small respects meets′ =
-      let pair = pair-small ds small tss smalls a b (split-at ds tss a b e) in
+      let pair = split-all ds tss a b (split-at ds tss a b e) Small smalls in
       branch (decide (f a) (f b))
       (λ equal. cannot-under v q (pair, small) (equal, respects) meets′)
       (λ differ. cannot-under w m (pair, small) (differ, respects) meets′)
@@ -84,12 +75,12 @@ module _ {A : Type 0} (decide : (x y : A) → Dec (x ≡ y)) (f : ℕ → A) (ts
 module _ (tss : List (List Term)) (smalls : All (All Small) tss) where
   -- Theorem 2: where the search meets a node, the classes there meet the conditions.
   pub search-met : isMet (searchTree tss) ≡ true → meetsAll (smallestLot (metDecisions (searchTree tss))) tss ≡ true
-  search-met m = met-meets tss (search-visits tss smalls) m
+  search-met m = met-meets tss (search-visits tss) m
 
   -- Theorem 3: where it meets none, no assignment meets them, with values of any type whose equality is decidable.
   pub search-cannot : isMet (searchTree tss) ≡ false → {A : Type 0} → ((x y : A) → Dec (x ≡ y)) → (f : ℕ → A) → ¬ MeetsAll f tss
   unfolding Respects
-  search-cannot m decide f = cannot-under decide f tss smalls (search-visits tss smalls) m tt tt
+  search-cannot m decide f = cannot-under decide f tss smalls (search-visits tss) m tt tt
 
   -- So the search meets a node exactly when some assignment into the naturals meets the conditions.
   pub search-decides : isMet (searchTree tss) ≡ true ↔ (f : ℕ → ℕ) × MeetsAll f tss

@@ -14,7 +14,8 @@ use Rattle.equality.specs.Meaning.{Meets}
 use Rattle.equality.specs.Search.{isMet, searchTree, depth, nodeCount, branching}
 use Rattle.equality.proofs.Small.{conditions-small}
 use Rattle.equality.proofs.Right.{search-decides, search-cannot}
-use Rattle.equality.proofs.Bounds.{search-depth, all-same-terms}
+use Rattle.equality.proofs.Bounds.{all-same-terms}
+use Rattle.equality.proofs.Visits.{search-depth}
 use Rattle.equality.proofs.Branching.{search-branching}
 
 module _ (s : List ℕ) (ok : Accepted s) where
@@ -26,11 +27,11 @@ module _ (s : List ℕ) (ok : Accepted s) where
   pub sheet-cannot : isMet (searchTree (conditions s)) ≡ false → {A : Type 0} → ((x y : A) → Dec (x ≡ y)) → (f : ℕ → A) → ¬ Meets f s
   sheet-cannot m decide f = search-cannot (conditions s) (conditions-small s ok) m decide f
 
-  -- No path has more splits than the checker admits.
+  -- No path has more splits than a sheet has term records.
   pub sheet-depth : depth (searchTree (conditions s)) ≤ mostRecords
   sheet-depth =
-      omega (arith, search-depth (conditions s) (conditions-small s ok), all-same-terms (conditions s), terms-length s ok, sound s ok .header .records)
+      omega (arith, search-depth (conditions s), all-same-terms (conditions s), terms-length s ok, sound s ok .header .records)
 
   -- The nodes are at most 2 × P − 1.
   pub sheet-branching : suc (nodeCount (searchTree (conditions s))) ≤ branching (conditions s) + branching (conditions s)
-  sheet-branching = search-branching (conditions s) (conditions-small s ok)
+  sheet-branching = search-branching (conditions s)

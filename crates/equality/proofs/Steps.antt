@@ -1,17 +1,15 @@
 -- What one decision more does to classes, marks and open terms: whatever was closed stays closed, and the pair decided is closed.
-use Prim.Native.Nat.{ℕ, _≤_}
+use Prim.Native.Nat.{ℕ}
 use mathlib.Core.Bool.{Bool, true, false, cond, _&&_, _||_, or-true, false≢true}
 use mathlib.Core.List.{List, [], _∷_}
 use mathlib.Core.Path.{_≡_, refl, sym, ap, _∙_}
 use borrow.Author.Tests.{eqb-true, eq-eqb}
 use lib.Dec.{eqb}
 use lib.ListN.{getD}
-use Rattle.sheet.specs.Format.{mostLots}
 use Rattle.sheet.specs.Conditions.{Term, same, apart}
-use Rattle.buffers.specs.Lists.{All}
 use Rattle.equality.specs.Node.{Decisions, classes, smallestLot, share, between, marked, markedApart, isTrue, isFalse, isOpen, value}
 use Rattle.equality.proofs.Tests.{or-cases, and-true-both}
-use Rattle.equality.specs.Opens.{Small, closed, closedTerm}
+use Rattle.equality.specs.Opens.{closed, closedTerm}
 use Rattle.equality.proofs.Classes.{joinedTo, same-class}
 
 eqb-self : (n : ℕ) → eqb n n ≡ true
@@ -50,51 +48,47 @@ not-closed-open ds (apart a b) e = go (share ds a b) (markedApart ds a b) e
 
 -- ---- classes that are joined, or renamed in any way, keep their marks
 
-module _ (cs cs′ : List ℕ) (g : ℕ → ℕ) (renamed : (lot : ℕ) → lot ≤ mostLots → getD cs′ lot 0 ≡ g (getD cs lot 0)) where
-  renamed-test : (lot x : ℕ) → lot ≤ mostLots → eqb (getD cs lot 0) x ≡ true → eqb (getD cs′ lot 0) (g x) ≡ true
-  renamed-test lot x h e = eq-eqb _ _ (renamed lot h ∙ ap g (eqb-true _ x e))
+module _ (cs cs′ : List ℕ) (g : ℕ → ℕ) (renamed : (lot : ℕ) → getD cs′ lot 0 ≡ g (getD cs lot 0)) where
+  renamed-test : (lot x : ℕ) → eqb (getD cs lot 0) x ≡ true → eqb (getD cs′ lot 0) (g x) ≡ true
+  renamed-test lot x e = eq-eqb _ _ (renamed lot ∙ ap g (eqb-true _ x e))
 
-  renamed-between : (x y a b : ℕ) → a ≤ mostLots → b ≤ mostLots → between cs x y a b ≡ true → between cs′ (g x) (g y) a b ≡ true
-  renamed-between x y a b ha hb e =
+  renamed-between : (x y a b : ℕ) → between cs x y a b ≡ true → between cs′ (g x) (g y) a b ≡ true
+  renamed-between x y a b e =
       or-cases (eqb (getD cs a 0) x && eqb (getD cs b 0) y) (eqb (getD cs a 0) y && eqb (getD cs b 0) x) e
-      (λ h. let both = and-true-both _ _ h in simp (renamed-test a x ha (both .0), renamed-test b y hb (both .1)))
-      (λ h. let both = and-true-both _ _ h in simp (renamed-test a y ha (both .0), renamed-test b x hb (both .1), or-true))
+      (λ h. let both = and-true-both _ _ h in simp (renamed-test a x (both .0), renamed-test b y (both .1)))
+      (λ h. let both = and-true-both _ _ h in simp (renamed-test a y (both .0), renamed-test b x (both .1), or-true))
 
-  pub renamed-marked : (ds : Decisions) → All Small ds → (x y : ℕ) → marked cs ds x y ≡ true → marked cs′ ds (g x) (g y) ≡ true
+  pub renamed-marked : (ds : Decisions) (x y : ℕ) → marked cs ds x y ≡ true → marked cs′ ds (g x) (g y) ≡ true
   unfolding marked
-  renamed-marked [] small x y e = absurd (false≢true e)
-  renamed-marked (same a b ∷ ds) small x y e = renamed-marked ds (small .1) x y e
-  renamed-marked (apart a b ∷ ds) small x y e =
+  renamed-marked [] x y e = absurd (false≢true e)
+  renamed-marked (same a b ∷ ds) x y e = renamed-marked ds x y e
+  renamed-marked (apart a b ∷ ds) x y e =
       or-cases (between cs x y a b) (marked cs ds x y) e
-      (λ h. simp (renamed-between x y a b (small .0 .0) (small .0 .1) h))
-      (λ h. simp (renamed-marked ds (small .1) x y h, or-true))
+      (λ h. simp (renamed-between x y a b h))
+      (λ h. simp (renamed-marked ds x y h, or-true))
 
 -- ---- one pair more
 
--- Its lots are within the classes' entries.
-abbrev pub SmallPair : ℕ → ℕ → Type 0
-SmallPair u v = (u ≤ mostLots) × (v ≤ mostLots)
-
 module _ (ds : Decisions) (a b : ℕ) where
-  pub share-stays : (u v : ℕ) → SmallPair u v → share ds u v ≡ true → share (same a b ∷ ds) u v ≡ true
-  share-stays u v h e =
+  pub share-stays : (u v : ℕ) → share ds u v ≡ true → share (same a b ∷ ds) u v ≡ true
+  share-stays u v e =
       eq-eqb _ _
-      (same-class ds a b u (h .0)
+      (same-class ds a b u
       ∙ ap (joinedTo (smallestLot ds a) (smallestLot ds b)) (eqb-true _ _ e)
-      ∙ sym (same-class ds a b v (h .1)))
+      ∙ sym (same-class ds a b v))
 
-  pub marked-stays : All Small ds → (u v : ℕ) → SmallPair u v → markedApart ds u v ≡ true → markedApart (same a b ∷ ds) u v ≡ true
+  pub marked-stays : (u v : ℕ) → markedApart ds u v ≡ true → markedApart (same a b ∷ ds) u v ≡ true
   unfolding marked
-  marked-stays small u v h e =
-      rw (same-class ds a b u (h .0), same-class ds a b v (h .1))
-      (renamed-marked (classes ds) (classes (same a b ∷ ds)) (joinedTo (smallestLot ds a) (smallestLot ds b)) (same-class ds a b) ds small _ _ e)
+  marked-stays u v e =
+      rw (same-class ds a b u, same-class ds a b v)
+      (renamed-marked (classes ds) (classes (same a b ∷ ds)) (joinedTo (smallestLot ds a) (smallestLot ds b)) (same-class ds a b) ds _ _ e)
 
   -- What was closed stays closed,
-  pub same-closed : All Small ds → (u v : ℕ) → SmallPair u v → closed ds u v ≡ true → closed (same a b ∷ ds) u v ≡ true
-  same-closed small u v h e =
+  pub same-closed : (u v : ℕ) → closed ds u v ≡ true → closed (same a b ∷ ds) u v ≡ true
+  same-closed u v e =
       or-cases (share ds u v) (markedApart ds u v) e
-      (λ p. simp (share-stays u v h p))
-      (λ q. simp (marked-stays small u v h q, or-true))
+      (λ p. simp (share-stays u v p))
+      (λ q. simp (marked-stays u v q, or-true))
 
   pub apart-closed : (u v : ℕ) → closed ds u v ≡ true → closed (apart a b ∷ ds) u v ≡ true
   unfolding classes marked
@@ -104,14 +98,14 @@ module _ (ds : Decisions) (a b : ℕ) where
       (λ q. simp (q, or-true))
 
   -- and the pair decided is closed.
-  pub same-shares : SmallPair a b → share (same a b ∷ ds) a b ≡ true
-  same-shares h = eq-eqb _ _ (same-class ds a b a (h .0) ∙ joined (smallestLot ds a) (smallestLot ds b) ∙ sym (same-class ds a b b (h .1)))
+  pub same-shares : share (same a b ∷ ds) a b ≡ true
+  same-shares = eq-eqb _ _ (same-class ds a b a ∙ joined (smallestLot ds a) (smallestLot ds b) ∙ sym (same-class ds a b b))
     where
       joined : (x y : ℕ) → joinedTo x y x ≡ joinedTo x y y
       joined x y = simp (eqb-self, or-true)
 
-  pub same-closes : SmallPair a b → closed (same a b ∷ ds) a b ≡ true
-  same-closes h = simp (same-shares h)
+  pub same-closes : closed (same a b ∷ ds) a b ≡ true
+  same-closes = simp same-shares
 
   pub apart-closes : closed (apart a b ∷ ds) a b ≡ true
   unfolding classes marked

@@ -8,10 +8,9 @@ use borrow.Author.Tests.{eqb-true, eqb-false, eq-eqb}
 use lib.Dec.{eqb}
 use lib.ListN.{getD}
 use Rattle.sheet.specs.Conditions.{Term, same, apart}
-use Rattle.buffers.specs.Lists.{All}
 use Rattle.equality.specs.Node.{Decisions, classes, smallestLot, share, marked, markedApart, isTrue, isFalse, isOpen, value}
 use Rattle.equality.proofs.Tests.{or-cases}
-use Rattle.equality.specs.Opens.{Small, closed}
+use Rattle.equality.specs.Opens.{closed}
 use Rattle.equality.proofs.Classes.{joinedTo, same-class, min-either}
 use Rattle.equality.proofs.Steps.{share-stays, marked-stays}
 
@@ -62,10 +61,10 @@ shared-true false true e = cc
 shared-true false false e = cc
 
 -- A "same" term is true exactly where its lots share a class, an "apart" term where they do not and are marked.
-module _ (ds : Decisions) (small : All Small ds) (a b : ℕ) (open′ : closed ds a b ≡ false) where
+module _ (ds : Decisions) (a b : ℕ) (open′ : closed ds a b ≡ false) where
   -- The lots of a pair that is marked apart share no class after an open pair is set same.
-  still-apart : (u v : ℕ) → Small (apart u v) → share ds u v ≡ false → markedApart ds u v ≡ true → share (same a b ∷ ds) u v ≡ false
-  still-apart u v h p q = go (share (same a b ∷ ds) u v) refl
+  still-apart : (u v : ℕ) → share ds u v ≡ false → markedApart ds u v ≡ true → share (same a b ∷ ds) u v ≡ false
+  still-apart u v p q = go (share (same a b ∷ ds) u v) refl
     where
       marked′ : markedApart ds a b ≡ true → ⊥
       marked′ m = false≢true (sym open′ ∙ simp (m, or-true))
@@ -84,14 +83,14 @@ module _ (ds : Decisions) (small : All Small ds) (a b : ℕ) (open′ : closed d
           absurd
           (impossible
           (joined-equal (smallestLot ds a) (smallestLot ds b) (smallestLot ds u) (smallestLot ds v)
-          (sym (same-class ds a b u (h .0)) ∙ eqb-true _ _ e ∙ same-class ds a b v (h .1))))
+          (sym (same-class ds a b u) ∙ eqb-true _ _ e ∙ same-class ds a b v)))
 
-  pub same-true : (t : Term) → Small t → value ds t ≡ isTrue → value (same a b ∷ ds) t ≡ isTrue
+  pub same-true : (t : Term) → value ds t ≡ isTrue → value (same a b ∷ ds) t ≡ isTrue
   unfolding value
-  same-true (same u v) h e = rw (share-stays ds a b u v h (shared-true (share ds u v) (markedApart ds u v) e))
-  same-true (apart u v) h e =
+  same-true (same u v) e = rw (share-stays ds a b u v (shared-true (share ds u v) (markedApart ds u v) e))
+  same-true (apart u v) e =
       let both = true-share (share ds u v) (markedApart ds u v) e in
-      simp (still-apart u v h (both .0) (both .1), marked-stays ds a b small u v h (both .1))
+      simp (still-apart u v (both .0) (both .1), marked-stays ds a b u v (both .1))
 
   pub apart-true : (t : Term) → value ds t ≡ isTrue → value (apart a b ∷ ds) t ≡ isTrue
   unfolding value classes marked

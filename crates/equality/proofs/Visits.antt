@@ -5,13 +5,12 @@ use mathlib.Core.List.{List, [], _∷_}
 use mathlib.Core.Path.{_≡_, refl, ap}
 use native.Mathlib.Omega.{arith}
 use Rattle.sheet.specs.Conditions.{Term, same, apart}
-use Rattle.buffers.specs.Lists.{All}
 use Rattle.equality.specs.Node.{Decisions, Node, met, ground, split, node}
 use Rattle.equality.specs.Search.{Tree, metLeaf, groundLeaf, oneBranch, twoBranches, isMet, afterSame, visitNode, visit, nodeRule, depth, metDecisions, allSameTerms, searchTree}
 use Rattle.equality.specs.Visits.{Visits, visits-met, visits-ground, visits-one, visits-two}
-use Rattle.equality.specs.Opens.{Small, allOpens}
+use Rattle.equality.specs.Opens.{allOpens}
 use Rattle.equality.proofs.Rule.{split-at}
-use Rattle.equality.proofs.Opens.{opens-all-same, pair-small, same-fewer, apart-fewer}
+use Rattle.equality.proofs.Opens.{opens-all-same, same-fewer, apart-fewer}
 
 -- The decisions of the met node are those of a met node.
 pub met-rule : {rule : Decisions → Node} {ds : Decisions} {t : Tree} → Visits rule ds t → isMet t ≡ true → rule (metDecisions t) ≡ met
@@ -22,6 +21,10 @@ met-rule (visits-one e v q) m = met-rule v m
 met-rule (visits-two e v q w) m = met-rule w m
 
 -- ---- a measure
+
+-- Nothing has to be known of the decisions.
+abbrev Any : Decisions → Type 0
+Any ds = Unit {0}
 
 -- Both branches of a split keep what is known of decisions, and the measure falls.
 pub record Branches (Good : Decisions → Type 0) (μ : Decisions → ℕ) (ds : Decisions) (a b : ℕ) : Type 0 where
@@ -131,19 +134,17 @@ module _ {rule : Decisions → Node} {ds : Decisions} where
 
 -- ---- the node rule
 
-module _ (tss : List (List Term)) (smalls : All (All Small) tss) where
-  pub node-branches : (ds : Decisions) → All Small ds → (a b : ℕ) → node ds tss ≡ split a b → Branches (All Small) (λ ds. allOpens ds tss) ds a b
-  node-branches ds small a b e =
+module _ (tss : List (List Term)) where
+  node-branches : (ds : Decisions) → Any ds → (a b : ℕ) → node ds tss ≡ split a b → Branches Any (λ ds. allOpens ds tss) ds a b
+  node-branches ds _ a b e =
       let at = split-at ds tss a b e in
-      let pair = pair-small ds small tss smalls a b at in
-      record {
-        same-good = (pair, small);
-        apart-good = (pair, small);
-        same-falls = same-fewer ds small tss smalls a b at;
-        apart-falls = apart-fewer ds small tss smalls a b at;
-      }
+      record { same-good = tt; apart-good = tt; same-falls = same-fewer ds tss a b at; apart-falls = apart-fewer ds tss a b at }
 
   pub search-visits : Visits (nodeRule tss) [] (searchTree tss)
   unfolding searchTree
   search-visits =
-      visit-visits (nodeRule tss) (All Small) (λ ds. allOpens ds tss) node-branches (suc (allSameTerms tss)) [] tt (omega (arith, opens-all-same [] tss))
+      visit-visits (nodeRule tss) Any (λ ds. allOpens ds tss) node-branches (suc (allSameTerms tss)) [] tt (omega (arith, opens-all-same [] tss))
+
+  -- Theorem 4: no path has more splits than there are "same" terms.
+  pub search-depth : depth (searchTree tss) ≤ allSameTerms tss
+  search-depth = omega (arith, depth-measure (nodeRule tss) Any (λ ds. allOpens ds tss) node-branches search-visits tt, opens-all-same [] tss)

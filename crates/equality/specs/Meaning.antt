@@ -5,6 +5,7 @@ use mathlib.Core.List.{List, [], _∷_}
 use mathlib.Core.Logic.{_⊎_, _≢_}
 use mathlib.Core.Path.{_≡_}
 use lib.Dec.{T, eqb}
+use Rattle.buffers.specs.Lists.{All}
 use Rattle.sheet.specs.Conditions.{Term, same, apart, conditions}
 
 -- "A numbering gives each lot a whole number.": an assignment (document 01: a numbering) is a function on lots; the values may be of
@@ -43,9 +44,8 @@ abbrev pub MeetsCondition : {A : Type 0} → (ℕ → A) → List Term → Type 
 MeetsCondition f ts = SomeTerm (Holds f) ts
 
 -- "a sheet when all conditions are."
-unfoldable pub MeetsAll : {A : Type 0} → (ℕ → A) → List (List Term) → Type 0
-MeetsAll f [] = Unit {0}
-MeetsAll f (ts ∷ tss) = MeetsCondition f ts × MeetsAll f tss
+abbrev pub MeetsAll : {A : Type 0} → (ℕ → A) → List (List Term) → Type 0
+MeetsAll f tss = All (MeetsCondition f) tss
 
 abbrev pub Meets : {A : Type 0} → (ℕ → A) → List ℕ → Type 0
 Meets f s = MeetsAll f (conditions s)

@@ -7,7 +7,7 @@ use lib.ListN.{length, getD, take, drop, length-take, length-drop, length-map}
 use lib.Seq.{getD-take, getD-drop, ext-getD}
 use Rattle.sheet.specs.Format.{mostLots}
 use Rattle.equality.specs.Node.{merged, classes}
-use Rattle.equality.proofs.Classes.{joinedTo, getD-map, classes-length, no-class}
+use Rattle.equality.proofs.Classes.{joinedTo, joined-zero, getD-map, classes-length, no-class}
 use Rattle.levels.specs.Levels.{entries, mapsLength, row}
 
 -- A row has its entries, each at its place.
@@ -47,5 +47,4 @@ module _ (maps maps′ : List ℕ) (level : ℕ) (len : length maps ≡ mapsLeng
       (simp length-map (row-length maps level len (omega arith)))
       (λ i lt.
       let at : entries * (level + 1) + i ≡ entries * level + entries + i = omega arith in
-      let below : i < length (row maps level) = omega (arith, row-length maps level len (omega arith)) in
-      rw at (each i lt ∙ ap (joinedTo x y) (sym (row-at maps level i lt)) ∙ sym (getD-map (joinedTo x y) (row maps level) i below)))
+      rw at (each i lt ∙ ap (joinedTo x y) (sym (row-at maps level i lt)) ∙ sym (getD-map (joinedTo x y) (joined-zero x y) (row maps level) i)))

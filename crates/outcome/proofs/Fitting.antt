@@ -16,7 +16,7 @@ use Rattle.equality.specs.Search.{Tree, metLeaf, groundLeaf, oneBranch, twoBran
 use Rattle.equality.specs.Opens.{Small}
 use Rattle.equality.proofs.Small.{conditions-small}
 use Rattle.equality.proofs.Rule.{TakenAt, ground-at, split-at}
-use Rattle.equality.proofs.Opens.{pair-small}
+use Rattle.equality.proofs.Opens.{split-all}
 use Rattle.equality.specs.Visits.{Visits, visits-met, visits-ground, visits-one, visits-two}
 use Rattle.equality.proofs.Visits.{search-visits}
 use Rattle.store.specs.Records.{mostNodes, recordLength, encodeAll, Fits}
@@ -58,12 +58,12 @@ module _ (s : List ℕ) (ok : Accepted s) where
           ap length (taken .place) ∙ length-append (taken .front) (ts ∷ taken .back) in
           omega (arith, taken .number, count, conditions-length s, sound s ok .header .conditions)
   tree-fits {ds} (visits-one {a = a} {b = b} e v q) small at h =
-      let pair = pair-small ds small (conditions s) (conditions-small s ok) a b (split-at ds (conditions s) a b e) in
+      let pair = split-all ds (conditions s) a b (split-at ds (conditions s) a b e) Small (conditions-small s ok) in
       (omega arith, tree-fits v (pair, small) (at + 1) (omega arith))
   tree-fits {ds} (visits-two {a = a} {b = b} {t = t} {u = u} e v q w) small at h =
-      let pair = pair-small ds small (conditions s) (conditions-small s ok) a b (split-at ds (conditions s) a b e) in
+      let pair = split-all ds (conditions s) a b (split-at ds (conditions s) a b e) Small (conditions-small s ok) in
       (omega (arith, node-count u), all-both Fits (records (at + 1) t) (records (at + 1 + nodeCount t) u) (tree-fits v (pair, small) (at + 1) (omega arith)) (tree-fits w (pair, small) (at + 1 + nodeCount t) (omega arith)))
 
   -- and those of the whole search where it has at most 65,535 nodes.
   pub search-fits : nodeCount (searchTree (conditions s)) ≤ mostNodes → All Fits (records 1 (searchTree (conditions s)))
-  search-fits few = tree-fits (search-visits (conditions s) (conditions-small s ok)) tt 1 (omega arith)
+  search-fits few = tree-fits (search-visits (conditions s)) tt 1 (omega arith)

@@ -25,7 +25,7 @@ use Rattle.equality.specs.Opens.{Small}
 use Rattle.buffers.proofs.Lists.{all-map, all-at}
 use Rattle.equality.proofs.Small.{conditions-small}
 use Rattle.equality.proofs.Rule.{TakenAt, GroundAt, SplitAt, ground-at, ground-false, split-at}
-use Rattle.equality.proofs.Opens.{pair-small}
+use Rattle.equality.proofs.Opens.{split-all}
 use Rattle.equality.specs.Visits.{Visits, visits-met, visits-ground, visits-one, visits-two}
 use Rattle.equality.proofs.Visits.{search-visits}
 use Rattle.equality.proofs.Sheets.{sheet-depth}
@@ -82,7 +82,7 @@ module _ (s : List ℕ) (ok : Accepted s) where
   own-walk (visits-one e v q) m small above path deep at rest = absurd (false≢true (sym m ∙ q))
   own-walk {ds} (visits-two {a = a} {b = b} {t = t} {u = u} e v q w) m small above path deep at rest =
       let split′ = split-at ds (conditions s) a b e in
-      let pair = pair-small ds small (conditions s) (conditions-small s ok) a b split′ in
+      let pair = split-all ds (conditions s) a b split′ Small (conditions-small s ok) in
       let next : ℕ = at + 1 + nodeCount t in
       let here : Split = record { number = at; next = next; decision = same a b } in
       let same-branch = own-walk v q (pair, small) (here ∷ above) (ap (λ (l : Decisions). same a b ∷ l) path) (omega arith) (at + 1) (records next u ++ rest) in
@@ -121,7 +121,7 @@ module _ (s : List ℕ) (ok : Accepted s) where
     walk-passes : walkVerdict s bytes ≡ Passes
     unfolding walkVerdict bytes tree nearest
     walk-passes =
-        let visits = search-visits (conditions s) (conditions-small s ok) in
+        let visits = search-visits (conditions s) in
         let decoded = records-of (records 1 (searchTree (conditions s))) (search-fits s ok few) in
         let deep : depth (searchTree (conditions s)) ≤ mostSplits = sheet-depth s ok in
         ap (λ (list : List NodeRecord). walkFrom s list 1 []) (decoded ∙ sym (append-nil (records 1 (searchTree (conditions s)))))

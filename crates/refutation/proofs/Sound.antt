@@ -15,6 +15,7 @@ use Rattle.sheet.specs.Conditions.{Term, same, apart, conditions}
 use Rattle.sheet.proofs.Verdicts.{orElse-passes, refusesIf-passes, firstRefusal-passes}
 use Rattle.sheet.proofs.Further.{further-passes}
 use Rattle.buffers.specs.Lists.{All}
+use Rattle.buffers.proofs.Lists.{all-nth}
 use Rattle.sheet.proofs.Accepted.{sound}
 use Rattle.sheet.proofs.Conditions.{conditions-length}
 use Rattle.equality.specs.Meaning.{Holds, MeetsCondition, MeetsAll, Meets}
@@ -28,19 +29,6 @@ use Rattle.refutation.specs.Refutation.{mostSplits, Split, decisionsOf, 
 
 refuses-passes : {check place : ℕ} → Refuses check place ≡ Passes → ⊥
 refuses-passes e = let z : _≡_ {A = ℕ} 0 1 = cc in omega arith
-
--- ---- elements by their places
-
-pub all-nth : {A : Type 0} (P : A → Type 0) (xs : List A) (d : A) → All P xs → (i : ℕ) → i < length xs → P (getD xs i d)
-all-nth P [] d h i lt = absurd (omega arith)
-all-nth P (x ∷ xs) d h zero lt = h .0
-all-nth P (x ∷ xs) d h (suc i) lt = all-nth P xs d (h .1) i (omega arith)
-
-meets-nth : {A : Type 0} (f : ℕ → A) (tss : List (List Term)) → MeetsAll f tss → (i : ℕ) → i < length tss → MeetsCondition f (getD tss i [])
-unfolding MeetsAll
-meets-nth f [] h i lt = absurd (omega arith)
-meets-nth f (ts ∷ tss) h zero lt = h .0
-meets-nth f (ts ∷ tss) h (suc i) lt = meets-nth f tss (h .1) i (omega arith)
 
 -- ---- what a passing walk excludes
 
@@ -65,7 +53,7 @@ module _ {A : Type 0} (decide : (x y : A) → Dec (x ≡ y)) (f : ℕ → A) (s 
   ground-excludes ds small c inRange passes respects =
       none-some (λ t. notFalse (value ds t)) (Holds f) (named s c) passes
       (falses (named s c) (all-nth (All Small) (conditions s) [] (conditions-small s ok) (c - 1) place) (some-none (λ t. notFalse (value ds t)) (named s c) passes))
-      (meets-nth f (conditions s) meets (c - 1) place)
+      (all-nth (MeetsCondition f) (conditions s) [] meets (c - 1) place)
     where
       place : c - 1 < length (conditions s)
       place =

@@ -16,10 +16,10 @@ use Rattle.equality.specs.Node.{Decisions, classes, merged, classOf, marked, ta
 use Rattle.equality.proofs.Small.{conditions-small}
 use Rattle.equality.proofs.Least.{least}
 use Rattle.equality.proofs.Node.{taken-apart}
-use Rattle.equality.specs.Opens.{closed, opens, allOpens}
+use Rattle.equality.specs.Opens.{Small, closed, opens, allOpens}
 use Rattle.equality.proofs.Rule.{split-at}
 use Rattle.equality.proofs.Bounds.{all-same-terms}
-use Rattle.equality.proofs.Opens.{opens-all-same, pair-small, same-fewer, apart-fewer}
+use Rattle.equality.proofs.Opens.{opens-all-same, split-all, same-fewer, apart-fewer}
 use Rattle.classes.specs.declared.Classes.{Classes}
 use Rattle.classes.specs.Pairs.{setApart, withPair, PairsWithin}
 use Rattle.classes.proofs.Path.{pair-leaves, new-represents, join-represents, apart-represents, below-represents, represented-within, smallest-says, marked-says}
@@ -133,17 +133,17 @@ module _ {s : List ℕ} {map : Classes} {pairs : List ℕ} {count : ℕ} {ds : D
   pairs-within = represented-within (st .represents) (st .small) (omega (arith, st .room))
 
   pub entries-within : EntriesWithin (map .lots)
-  entries-within lot h = omega (arith, smallest-says (st .represents) lot, least ds lot h)
+  entries-within lot h = omega (arith, smallest-says (st .represents) lot, least ds lot)
 
   module _ (ok : Accepted s) (a b : ℕ) (e : node ds (conditions s) ≡ split a b) where
     pub split-small : (a ≤ mostLots) × (b ≤ mostLots)
-    split-small = pair-small ds (st .small) (conditions s) (conditions-small s ok) a b (split-at ds (conditions s) a b e)
+    split-small = split-all ds (conditions s) a b (split-at ds (conditions s) a b e) Small (conditions-small s ok)
 
     same-falls : allOpens (same a b ∷ ds) (conditions s) < allOpens ds (conditions s)
-    same-falls = same-fewer ds (st .small) (conditions s) (conditions-small s ok) a b (split-at ds (conditions s) a b e)
+    same-falls = same-fewer ds (conditions s) a b (split-at ds (conditions s) a b e)
 
     apart-falls : allOpens (apart a b ∷ ds) (conditions s) < allOpens ds (conditions s)
-    apart-falls = apart-fewer ds (st .small) (conditions s) (conditions-small s ok) a b (split-at ds (conditions s) a b e)
+    apart-falls = apart-fewer ds (conditions s) a b (split-at ds (conditions s) a b e)
 
     -- The same branch, by what `join` ensures;
     pub same-standing : (map′ : Classes) → map′ .lots ≡ merged (classOf (map .lots) a) (classOf (map .lots) b) (map .lots)

@@ -90,7 +90,7 @@ module _ (s : List ℕ) (ok : Accepted s) where
       let within : InLots (lotCount s) (i + 1) = record { low = omega arith; high = omega arith } in
       let place : i + 1 - 1 ≡ i = omega arith in
       let number = rw (drop-nil (length bytes), append-nil bytes, place) at (grouping-number (lotCount s) ds [] lots (i + 1) within) in
-      omega (arith, number, least ds (i + 1) (omega arith))
+      omega (arith, number, least ds (i + 1))
 
   met-line-most : (ds : Decisions) → length (metLine (groupingBytes (lotCount s) ds)) ≤ 516
   unfolding metLine

@@ -65,7 +65,7 @@ returns c =
     c .before .before .before .before .before .before .visit .ensures .0 [] (searchTree (conditions (begin .args .sheet .now)))
     (start-standing (begin .args .sheet .now) ok _ _ (c .before .before .before .before .before .before .before .before .before .before .before .new .ensures) refl)
     tt
-    (search-visits (conditions (begin .args .sheet .now)) (conditions-small (begin .args .sheet .now) ok))
+    (search-visits (conditions (begin .args .sheet .now)))
 
 pub start-spec : {M : Type 1} → statement M
 start-spec =
