@@ -48,4 +48,4 @@ module _ {n : ℕ} {tss : List (List Term)} where
 pub accepted-within : (s : List ℕ) → Accepted s → Within (lotCount s) (conditions s)
 accepted-within s ok =
     let header = sound s ok .header in
-    in-within (header .lots) (rw (conditions-length s) (header .conditions)) (rw (terms-length s ok) (header .records)) (conditions-in s ok)
+    in-within (header .lots) (rw (conditions-length s) (header .conditions)) (omega (arith, terms-length s ok, header .records)) (conditions-in s ok)

@@ -7,7 +7,7 @@ ghost use lib.ListN.{length};
 ghost use Rattle.sheet.specs.Format.{mostLots, lotCount, recordCount};
 ghost use Rattle.sheet.specs.Checks.{lotInRange};
 ghost use Rattle.sheet.specs.Conditions.{termsFrom};
-ghost use Rattle.equality.specs.Meaning.{someTerm};
+ghost use Rattle.equality.specs.Meaning.{anyTerm};
 ghost use mathlib.Core.List.{List};
 ghost use Rattle.store.specs.Records.{splitRecord, groundRecord, recordAt, recordLength, mostNodes};
 ghost use Rattle.store.specs.Code.{HasPlace};
@@ -89,11 +89,11 @@ fn allows(table: &[u8], sign: u8, x: u8, y: u8) -> bool
 // Whether every term of the chain from a record on is false.
 fn all_false(sheet: &[u8], m: u16, lots: &[u8], table: &[u8], head: Record) -> bool
     requires { ⌜ Checkable (now sheet) m × ClassMap (now lots) × (length (now table) ≡ tableLength) × (head .0 ≤ recordCount (now sheet)) ⌝ }
-    ensures { λ r. ⌜ r ≡ not (someTerm (allows (now (lots .entry)) (now (table .entry))) (termsFrom (now (sheet .entry)) (head .0))) ⌝ }
+    ensures { λ r. ⌜ r ≡ not (anyTerm (allows (now (lots .entry)) (now (table .entry))) (termsFrom (now (sheet .entry)) (head .0))) ⌝ }
 {
     let mut at = head;
     while at.0 != 0 {
-        let t = sheet::format::term_at(sheet, m, at);
+        let t = sheet::chain::term_at(sheet, at, m);
         let a = t.a.0 as usize;
         let b = t.b.0 as usize;
         if allows(table, t.sign, lots[a], lots[b]) {
@@ -109,12 +109,12 @@ fn all_false(sheet: &[u8], m: u16, lots: &[u8], table: &[u8], head: Record) -> b
 fn past_apart(sheet: &[u8], m: u16, lots: &[u8], head: Record) -> Record
     requires { ⌜ Checkable (now sheet) m × ClassMap (now lots) × (head .0 ≤ recordCount (now sheet)) ⌝ }
     ensures within { λ r. ⌜ r .0 ≤ recordCount (now (sheet .entry)) ⌝ }
-    ensures rest { λ r. ⌜ ((table : List ℕ) → someTerm (allows (now (lots .entry)) table) (termsFrom (now (sheet .entry)) (head .0))
-        ≡ someTerm (allows (now (lots .entry)) table) (termsFrom (now (sheet .entry)) (r .0))) ⌝ }
+    ensures rest { λ r. ⌜ ((table : List ℕ) → anyTerm (allows (now (lots .entry)) table) (termsFrom (now (sheet .entry)) (head .0))
+        ≡ anyTerm (allows (now (lots .entry)) table) (termsFrom (now (sheet .entry)) (r .0))) ⌝ }
 {
     let mut at = head;
     while at.0 != 0 {
-        let t = sheet::format::term_at(sheet, m, at);
+        let t = sheet::chain::term_at(sheet, at, m);
         if t.sign == SAME {
             return at;
         }

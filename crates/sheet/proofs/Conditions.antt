@@ -55,9 +55,9 @@ TermIn lots (same a b) = InLots lots a × InLots lots b
 TermIn lots (apart a b) = InLots lots a × InLots lots b
 
 module _ (s : List ℕ) (ok : Accepted s) where
-  -- There are k terms.
-  pub terms-length : length (flatten (conditions s)) ≡ recordCount s
-  terms-length = rw (terms-all s) (length-map (allRecords s) (termAt s) ∙ records-length s ok)
+  -- There are at most k terms.
+  pub terms-length : length (flatten (conditions s)) ≤ recordCount s
+  terms-length = rw (terms-all s) (omega (arith, length-map (allRecords s) (termAt s), records-length s ok))
 
   -- The term of a record names lots of the sheet;
   pub term-in : (r : ℕ) → 1 ≤ r → r ≤ recordCount s → TermIn (lotCount s) (termAt s r)

@@ -27,28 +27,38 @@ abbrev μ-loop : tie.MeasureT-loop
 loop-holds : tie.Need-loop-holds Inv-loop μ-loop
 loop-holds c = passing-start (allows _ _) _ _ (c .before .before .before .pre .3)
 
+-- The start of a turn's walk.
+abbrev begun : tie.At-loop Inv-loop μ-loop → tie.Start Inv-loop μ-loop
+begun l = l .before .before .before .before
+
 -- In a turn: the record is one of the sheet's,
-record-number : (c : tie.Then1 Inv-loop μ-loop) → 1 ≤ c .before .before .loop .at .0
+abbrev tested : tie.Then1 Inv-loop μ-loop → tie.At-loop Inv-loop μ-loop
+tested c = c .before .before
+
+record-number : (c : tie.Then1 Inv-loop μ-loop) → 1 ≤ tested c .loop .at .0
 record-number c = omega (arith, c .if1 .taken)
 
-fields : (c : tie.Then1 Inv-loop μ-loop) → SoundRecord (c .before .before .before .before .before .before .args .sheet .now) (c .before .before .loop .at .0)
-fields c = sound (c .before .before .before .before .before .before .args .sheet .now) (c .before .before .before .before .before .before .pre .0 .accepted) .records (c .before .before .loop .at .0) (record-number c) (c .before .before .loop .inv .within)
+fields : (c : tie.Then1 Inv-loop μ-loop) → SoundRecord (begun (tested c) .args .sheet .now) (tested c .loop .at .0)
+fields c =
+    let start = begun (tested c) in
+    sound (start .args .sheet .now) (start .pre .0 .accepted) .records (tested c .loop .at .0) (record-number c) (tested c .loop .inv .within)
 
 -- and its lots have entries in the map.
 first-entry : (c : tie.After-term-at Inv-loop μ-loop) → c .term-at .result .a .0 ≤ mostLots
 first-entry c =
-    let start = c .before .before .before .before .before .before .before in
+    let start = begun (tested (c .before)) in
     rw (c .term-at .ensures) (omega (arith, fields (c .before) .first .high, sound (start .args .sheet .now) (start .pre .0 .accepted) .header .lots))
 
 second-entry : (c : tie.After-term-at Inv-loop μ-loop) → c .term-at .result .b .0 ≤ mostLots
 second-entry c =
-    let start = c .before .before .before .before .before .before .before in
+    let start = begun (tested (c .before)) in
     rw (c .term-at .ensures) (omega (arith, fields (c .before) .second .high, sound (start .args .sheet .now) (start .pre .0 .accepted) .header .lots))
 
 term-at-requires : tie.Need-term-at-requires Inv-loop μ-loop
-term-at-requires c κs = let start = c .before .before .before .before .before .before in
+term-at-requires c κs =
+    let start = begun (tested c) in
     let can = start .pre .0 in
-    rw (can .counted) (has-record (sound (start .args .sheet .now) (can .accepted) .header) (c .before .before .loop .at .0) (record-number c) (c .before .before .loop .inv .within))
+    rw (can .counted) (has-record (sound (start .args .sheet .now) (can .accepted) .header) (tested c .loop .at .0) (record-number c) (tested c .loop .inv .within))
 
 cast-a : tie.Need-cast-a Inv-loop μ-loop
 cast-a c = search needs
@@ -57,51 +67,75 @@ cast-b : tie.Need-cast-b Inv-loop μ-loop
 cast-b c = search needs
 
 shared-slice-read-allows : tie.Need-shared-slice-read-allows Inv-loop μ-loop
-shared-slice-read-allows c = omega (arith, first-entry (c .before .before .before), c .before .before .before .before .before .before .before .before .before .before .pre .1 .size)
+shared-slice-read-allows c =
+    let term = c .before .before .before in
+    omega (arith, first-entry term, begun (tested (term .before)) .pre .1 .size)
 
 shared-slice-read-allows-2 : tie.Need-shared-slice-read-allows-2 Inv-loop μ-loop
-shared-slice-read-allows-2 c = omega (arith, second-entry (c .before .before .before .before), c .before .before .before .before .before .before .before .before .before .before .before .pre .1 .size)
+shared-slice-read-allows-2 c =
+    let term = c .before .before .before .before in
+    omega (arith, second-entry term, begun (tested (term .before)) .pre .1 .size)
 
 allows-requires : tie.Need-allows-requires Inv-loop μ-loop
-allows-requires c κs = let start = c .before .before .before .before .before .before .before .before .before .before .before in
-    (start .pre .2, start .pre .1 .within _ (first-entry (c .before .before .before .before)), start .pre .1 .within _ (second-entry (c .before .before .before .before)))
+allows-requires c κs =
+    let term = c .before .before .before .before in
+    let start = begun (tested (term .before)) in
+    (start .pre .2, start .pre .1 .within _ (first-entry term), start .pre .1 .within _ (second-entry term))
 
--- What `allows` answers is whether the record's term is true or open.
+-- Once `allows` has answered: the term that it was asked of,
+abbrev asked : tie.After-allows Inv-loop μ-loop → tie.After-term-at Inv-loop μ-loop
+asked c = c .before .before .before .before .before
+
+abbrev turn : tie.After-allows Inv-loop μ-loop → tie.Then1 Inv-loop μ-loop
+turn c = asked c .before
+
+abbrev outset : tie.After-allows Inv-loop μ-loop → tie.Start Inv-loop μ-loop
+outset c = begun (tested (turn c))
+
+-- and the answer is whether the record's term is true or open.
 answer : (c : tie.After-allows Inv-loop μ-loop)
-    → allows (c .before .before .before .before .before .before .before .before .before .before .before .before .args .lots .now) (c .before .before .before .before .before .before .before .before .before .before .before .before .args .table .now) (termAt (c .before .before .before .before .before .before .before .before .before .before .before .before .args .sheet .now) (c .before .before .before .before .before .before .before .before .loop .at .0)) ≡ c .allows .result
+    → allows (outset c .args .lots .now) (outset c .args .table .now) (termAt (outset c .args .sheet .now) (tested (turn c) .loop .at .0)) ≡ c .allows .result
 answer c =
-    let start = c .before .before .before .before .before .before .before .before .before .before .before .before in
+    let start = outset c in
     let s = start .args .sheet .now in
-    let r = c .before .before .before .before .before .before .before .before .loop .at .0 in
+    let r = tested (turn c) .loop .at .0 in
     allows-term (start .args .lots .now) (start .args .table .now) (signAt s r) (firstLotAt s r) (secondLotAt s r)
-    ∙ ap (λ (t : Term). allowsClasses (start .args .table .now) (eqb (t .sign) 1) (classOf (start .args .lots .now) (t .a .0)) (classOf (start .args .lots .now) (t .b .0))) (sym (c .before .before .before .before .before .term-at .ensures))
+    ∙ ap (λ (t : Term). allowsClasses (start .args .table .now) (eqb (t .sign) 1) (classOf (start .args .lots .now) (t .a .0)) (classOf (start .args .lots .now) (t .b .0))) (sym (asked c .term-at .ensures))
     ∙ sym (c .allows .ensures)
 
 returns : tie.Need-returns Inv-loop μ-loop
-returns c = let start = c .before .before .before .before .before .before .before .before .before .before .before .before .before in
+returns c =
+    let a = c .before in
+    let start = outset a in
+    let l = tested (turn a) in
     ap not
     (sym
-    (found (allows (start .args .lots .now) (start .args .table .now)) (start .args .sheet .now) (start .pre .0 .accepted) (start .args .head .0) (c .before .before .before .before .before .before .before .before .before .loop .at .0) (c .before .before .before .before .before .before .before .before .before .loop .inv)
-    (record-number (c .before .before .before .before .before .before .before))
-    (answer (c .before) ∙ c .if2 .taken)))
+    (found (allows (start .args .lots .now) (start .args .table .now)) (start .args .sheet .now) (start .pre .0 .accepted) (start .args .head .0) (l .loop .at .0) (l .loop .inv)
+    (record-number (turn a)) (answer a ∙ c .if2 .taken)))
 
 loop-less : tie.Need-loop-less Inv-loop μ-loop
-loop-less c = let start = c .before .before .before .before .before .before .before .before .before .before .before .before .before .before in
-    rw (c .before .before .before .before .before .before .before .term-at .ensures)
-    (rest-shorter (start .args .sheet .now) (start .pre .0 .accepted) (c .before .before .before .before .before .before .before .before .before .before .loop .at .0) (record-number (c .before .before .before .before .before .before .before .before)) (c .before .before .before .before .before .before .before .before .before .before .loop .inv .within))
+loop-less c =
+    let a = c .before .before in
+    let start = outset a in
+    let l = tested (turn a) in
+    rw (asked a .term-at .ensures) (rest-shorter (start .args .sheet .now) (start .pre .0 .accepted) (l .loop .at .0) (record-number (turn a)) (l .loop .inv .within))
 
 loop-again : tie.Need-loop-again Inv-loop μ-loop
-loop-again c = let start = c .before .before .before .before .before .before .before .before .before .before .before .before .before .before in
-    rw (c .before .before .before .before .before .before .before .term-at .ensures)
-    (passing-next (allows (start .args .lots .now) (start .args .table .now)) (start .args .sheet .now) (start .pre .0 .accepted) (start .args .head .0) (c .before .before .before .before .before .before .before .before .before .before .loop .at .0) (c .before .before .before .before .before .before .before .before .before .before .loop .inv)
-    (record-number (c .before .before .before .before .before .before .before .before))
-    (answer (c .before .before) ∙ c .before .if2 .left))
+loop-again c =
+    let a = c .before .before in
+    let start = outset a in
+    let l = tested (turn a) in
+    rw (asked a .term-at .ensures)
+    (passing-next (allows (start .args .lots .now) (start .args .table .now)) (start .args .sheet .now) (start .pre .0 .accepted) (start .args .head .0) (l .loop .at .0) (l .loop .inv)
+    (record-number (turn a)) (answer a ∙ c .before .if2 .left))
 
 returns-2 : tie.Need-returns-2 Inv-loop μ-loop
-returns-2 c = let start = c .before .before .before .before .before .before in
+returns-2 c =
+    let l = c .before .before in
+    let start = begun l in
     ap not
     (sym
-    (ended (allows (start .args .lots .now) (start .args .table .now)) (start .args .sheet .now) (start .pre .0 .accepted) (start .args .head .0) (c .before .before .loop .at .0) (c .before .before .loop .inv) (c .if1 .left)))
+    (ended (allows (start .args .lots .now) (start .args .table .now)) (start .args .sheet .now) (start .pre .0 .accepted) (start .args .head .0) (l .loop .at .0) (l .loop .inv) (c .if1 .left)))
 
 pub all-false-spec : {M : Type 1} → statement M
 all-false-spec =

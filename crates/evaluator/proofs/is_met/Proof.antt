@@ -1,14 +1,16 @@
 -- `evaluator::is_met`: every term that the loop has passed is false; what is left of the chain falls.
+use mathlib.Core.Bool.{Bool}
 use mathlib.Core.Path.{_≡_, sym, ap, _∙_}
 use Prim.Native.Nat.{_≤_}
 use native.Mathlib.Omega.{arith}
 use lib.ListN.{length}
 use Rattle.sheet.specs.declared.Term.{Term}
-use Rattle.sheet.specs.Conditions.{termOf, termAt, recordsFrom}
+use Rattle.sheet.specs.Conditions.{termOf, termAt, recordsFrom, termsFrom}
 use Rattle.sheet.proofs.Accepted.{has-record, sound}
 use Rattle.sheet.proofs.ChainEnds.{rest-shorter}
-use Rattle.equality.specs.Meaning.{holds}
+use Rattle.equality.specs.Meaning.{anyTerm, holds, meetsCondition}
 use Rattle.equality.specs.Evaluator.{numberIn}
+use Rattle.equality.proofs.Some.{some-any}
 use Rattle.equality.proofs.Passing.{Passing, passing-start, found, passing-next, ended}
 use Rattle.evaluator.proofs.Numbered.{lots-numbered}
 use Rattle.evaluator.proofs.is_met.Statement.{statement}
@@ -23,64 +25,80 @@ abbrev μ-loop : tie.MeasureT-loop
 loop-holds : tie.Need-loop-holds Inv-loop μ-loop
 loop-holds c = passing-start _ _ _ (c .before .before .pre .1)
 
+-- The start of a turn's walk.
+abbrev begun : tie.At-loop Inv-loop μ-loop → tie.Start Inv-loop μ-loop
+begun l = l .before .before .before
+
 -- In a turn: the record is one of the sheet's.
 record-number : (c : tie.Then1 Inv-loop μ-loop) → 1 ≤ c .before .before .loop .at .0
 record-number c = omega (arith, c .if1 .taken)
 
 term-at-requires : tie.Need-term-at-requires Inv-loop μ-loop
 term-at-requires c κs =
-    let h = c .before .before in
-    let start = h .before .before .before in
+    let l = c .before .before in
+    let start = begun l in
     let can = start .pre .0 in
-    rw (can .counted) (has-record (sound (start .args .sheet .now) (can .accepted) .header) (h .loop .at .0) (record-number c) (h .loop .inv .within))
+    rw (can .counted) (has-record (sound (start .args .sheet .now) (can .accepted) .header) (l .loop .at .0) (record-number c) (l .loop .inv .within))
 
 is-true-requires : tie.Need-is-true-requires Inv-loop μ-loop
 is-true-requires c κs =
-    let h = c .before .before .before in
-    let start = h .before .before .before in
+    let l = c .before .before .before in
+    let start = begun l in
     rw (c .term-at .ensures)
-    (lots-numbered (start .args .sheet .now) (start .args .grouping .now) (start .args .m) (start .pre .0) (h .loop .at .0) (record-number (c .before)) (h .loop .inv .within))
+    (lots-numbered (start .args .sheet .now) (start .args .grouping .now) (start .args .m) (start .pre .0) (l .loop .at .0) (record-number (c .before)) (l .loop .inv .within))
 
--- What `is_true` answers is whether the record's term is true.
+-- Once `is_true` has answered: the turn,
+abbrev turn : tie.After-is-true Inv-loop μ-loop → tie.Then1 Inv-loop μ-loop
+turn c = c .before .before
+
+abbrev tested : tie.After-is-true Inv-loop μ-loop → tie.At-loop Inv-loop μ-loop
+tested c = turn c .before .before
+
+-- and the answer is whether the record's term is true.
 answer : (c : tie.After-is-true Inv-loop μ-loop)
-    → c .is-true .result
-    ≡ holds (numberIn (c .before .before .before .before .before .before .before .args .grouping .now))
-    (termAt (c .before .before .before .before .before .before .before .args .sheet .now) (c .before .before .before .before .loop .at .0))
+    → c .is-true .result ≡ holds (numberIn (begun (tested c) .args .grouping .now)) (termAt (begun (tested c) .args .sheet .now) (tested c .loop .at .0))
 answer c =
     c .is-true .ensures
-    ∙ ap (λ (t : Term). holds (numberIn (c .before .before .before .before .before .before .before .args .grouping .now)) (termOf (t .sign) (t .a .0) (t .b .0))) (c .before .term-at .ensures)
+    ∙ ap (λ (t : Term). holds (numberIn (begun (tested c) .args .grouping .now)) (termOf (t .sign) (t .a .0) (t .b .0))) (c .before .term-at .ensures)
+
+-- What the loop says of the chain's terms, it says of the condition.
+module _ (start : tie.Start Inv-loop μ-loop) where
+  lifted : {b : Bool} → anyTerm (holds (numberIn (start .args .grouping .now))) (termsFrom (start .args .sheet .now) (start .args .head .0)) ≡ b
+      → b ≡ meetsCondition (numberIn (start .args .grouping .now)) (termsFrom (start .args .sheet .now) (start .args .head .0))
+  lifted e = sym (some-any (holds (numberIn (start .args .grouping .now))) (termsFrom (start .args .sheet .now) (start .args .head .0)) ∙ e)
 
 returns : tie.Need-returns Inv-loop μ-loop
 returns c =
-    let h = c .before .before .before .before .before in
-    let start = h .before .before .before in
-    sym
-    (found (holds (numberIn (start .args .grouping .now))) (start .args .sheet .now) (start .pre .0 .accepted) (start .args .head .0) (h .loop .at .0) (h .loop .inv)
-    (record-number (c .before .before .before))
-    (sym (answer (c .before)) ∙ c .if2 .taken))
+    let a = c .before in
+    let l = tested a in
+    let start = begun l in
+    lifted start
+    (found (holds (numberIn (start .args .grouping .now))) (start .args .sheet .now) (start .pre .0 .accepted) (start .args .head .0) (l .loop .at .0) (l .loop .inv)
+    (record-number (turn a)) (sym (answer a) ∙ c .if2 .taken))
 
 loop-less : tie.Need-loop-less Inv-loop μ-loop
 loop-less c =
-    let h = c .before .before .before .before .before .before in
-    let start = h .before .before .before in
-    rw (c .before .before .before .term-at .ensures)
-    (rest-shorter (start .args .sheet .now) (start .pre .0 .accepted) (h .loop .at .0) (record-number (c .before .before .before .before)) (h .loop .inv .within))
+    let a = c .before .before in
+    let l = tested a in
+    let start = begun l in
+    rw (a .before .term-at .ensures)
+    (rest-shorter (start .args .sheet .now) (start .pre .0 .accepted) (l .loop .at .0) (record-number (turn a)) (l .loop .inv .within))
 
 loop-again : tie.Need-loop-again Inv-loop μ-loop
 loop-again c =
-    let h = c .before .before .before .before .before .before in
-    let start = h .before .before .before in
-    rw (c .before .before .before .term-at .ensures)
-    (passing-next (holds (numberIn (start .args .grouping .now))) (start .args .sheet .now) (start .pre .0 .accepted) (start .args .head .0) (h .loop .at .0) (h .loop .inv)
-    (record-number (c .before .before .before .before))
-    (sym (answer (c .before .before)) ∙ c .before .if2 .left))
+    let a = c .before .before in
+    let l = tested a in
+    let start = begun l in
+    rw (a .before .term-at .ensures)
+    (passing-next (holds (numberIn (start .args .grouping .now))) (start .args .sheet .now) (start .pre .0 .accepted) (start .args .head .0) (l .loop .at .0) (l .loop .inv)
+    (record-number (turn a)) (sym (answer a) ∙ c .before .if2 .left))
 
 returns-2 : tie.Need-returns-2 Inv-loop μ-loop
 returns-2 c =
-    let h = c .before .before in
-    let start = h .before .before .before in
-    sym
-    (ended (holds (numberIn (start .args .grouping .now))) (start .args .sheet .now) (start .pre .0 .accepted) (start .args .head .0) (h .loop .at .0) (h .loop .inv) (c .if1 .left))
+    let l = c .before .before in
+    let start = begun l in
+    lifted start
+    (ended (holds (numberIn (start .args .grouping .now))) (start .args .sheet .now) (start .pre .0 .accepted) (start .args .head .0) (l .loop .at .0) (l .loop .inv) (c .if1 .left))
 
 pub is-met-spec : {M : Type 1} → statement M
 is-met-spec =
