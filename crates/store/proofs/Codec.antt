@@ -37,7 +37,7 @@ encodeAll-append (x ∷ xs) ys =
 
 pub decode-encode : (r : NodeRecord) (rest : List ℕ) → Fits r → decode (encode r ++ rest) 0 ≡ r
 unfolding decode encode twoBytes number ofKind
-decode-encode (splitRecord a b next) rest h = simp (low-high a (h .0), low-high b (h .1), low-high next (h .2))
+decode-encode (splitRecord a b next) rest h = simp (low-high a (h .0), low-high b (h .1), low-high next (omega (arith, h .2)))
 decode-encode (groundRecord c) rest h = simp (low-high c h)
 decode-encode metRecord rest h = refl
 decode-encode noRecord rest h = absurd h

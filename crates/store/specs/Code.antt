@@ -1,6 +1,6 @@
 -- For the contracts of the code; this file states nothing of document 01. `declared.NodeRecord` is the code's enum, and `NodeRecord` the
 -- definitions' data.
-use Prim.Native.Nat.{ℕ, _*_, _<_, _≤_}
+use Prim.Native.Nat.{ℕ, _*_, _≤_}
 use mathlib.Core.List.{List}
 use lib.ListN.{length}
 use Rattle.store.specs.declared.NodeRecord as declared
@@ -13,13 +13,6 @@ recordOf (Split a b next) = splitRecord (a .0) (b .0) (next .0)
 recordOf (Ground c) = groundRecord (c .0)
 recordOf Met = metRecord
 recordOf Other = noRecord
-
--- The numbers of a record fit two bytes each. Lots and conditions always do.
-abbrev pub FitsBytes : declared.NodeRecord → Type 0
-FitsBytes (Split a b next) = next .0 < 65536
-FitsBytes (Ground c) = Unit {0}
-FitsBytes Met = Unit {0}
-FitsBytes Other = Unit {0}
 
 -- Record `number`, counted from 1, has its place whole within the bytes.
 pub record HasPlace (bytes : List ℕ) (number : ℕ) : Type 0 where

@@ -1,9 +1,10 @@
 -- Node records: one per node visited, and their bytes (document 01, "The node store").
-use Prim.Native.Nat.{ℕ, zero, suc, _+_, _*_, _-_, _/_, min}
+use Prim.Native.Nat.{ℕ, zero, suc, _+_, _*_, _-_, _/_, min, _≤_}
 use mathlib.Core.Bool.{Bool, cond, _&&_}
 use mathlib.Core.List.{List, [], _∷_, _++_, map}
 use lib.Dec.{eqb}
 use lib.ListN.{length, getD}
+use lib.Seq.{sets}
 use Rattle.buffers.specs.Bytes.{number, twoBytes, TwoBytes}
 use Rattle.sheet.specs.Conditions.{countUp}
 
@@ -21,9 +22,22 @@ pub data NodeRecord : Type 0 where
 abbrev pub recordLength : ℕ
 recordLength = 8
 
+-- The next of a record: where it stands, its bytes, and the most that it can be. Nothing else says any of these.
+abbrev pub nextPlace : ℕ
+nextPlace = 6
+
+abbrev pub nextBytes : ℕ → List ℕ
+nextBytes next = twoBytes next
+
+abbrev pub nextIn : List ℕ → ℕ → ℕ
+nextIn list i = number list (i + nextPlace)
+
+abbrev pub mostNext : ℕ
+mostNext = 65535
+
 -- "kind, spare 0 (one byte each), first, second, next (two bytes each)"
 abbrev pub fields : ℕ → ℕ → ℕ → ℕ → List ℕ
-fields kind first second next = kind ∷ 0 ∷ twoBytes first ++ twoBytes second ++ twoBytes next
+fields kind first second next = kind ∷ 0 ∷ twoBytes first ++ twoBytes second ++ nextBytes next
 
 -- Nothing writes `noRecord`; it has the bytes of kind 0 here so that every record has some.
 unfoldable pub encode : NodeRecord → List ℕ
@@ -32,9 +46,9 @@ encode (groundRecord c) = fields 2 c 0 0
 encode metRecord = fields 3 0 0 0
 encode noRecord = fields 0 0 0 0
 
--- The numbers of a record fit two bytes, and it is one of the three kinds.
+-- The numbers of a record have their bytes, and it is one of the three kinds.
 abbrev pub Fits : NodeRecord → Type 0
-Fits (splitRecord a b next) = TwoBytes a × TwoBytes b × TwoBytes next
+Fits (splitRecord a b next) = TwoBytes a × TwoBytes b × (next ≤ mostNext)
 Fits (groundRecord c) = TwoBytes c
 Fits metRecord = Unit {0}
 Fits noRecord = ⊥
@@ -53,7 +67,7 @@ ofKind (suc (suc (suc (suc kind)))) spare first second next = noRecord
 
 -- The record whose bytes begin at place i.
 unfoldable pub decode : List ℕ → ℕ → NodeRecord
-decode list i = ofKind (getD list i 0) (getD list (i + 1) 0) (number list (i + 2)) (number list (i + 4)) (number list (i + 6))
+decode list i = ofKind (getD list i 0) (getD list (i + 1) 0) (number list (i + 2)) (number list (i + 4)) (nextIn list i)
 
 -- Record r of a list of records, "numbered from 1", and all of them.
 abbrev pub recordAt : List ℕ → ℕ → NodeRecord
@@ -61,6 +75,10 @@ recordAt list r = decode list (recordLength * (r - 1))
 
 unfoldable pub recordsOf : List ℕ → List NodeRecord
 recordsOf list = map (recordAt list) (countUp (length list / recordLength) 1)
+
+-- The next of record `number`, set after the record was written: it "is the record where that second branch begins".
+abbrev pub setNext : List ℕ → ℕ → ℕ → List ℕ
+setNext store number next = sets store (recordLength * (number - 1) + nextPlace) (nextBytes next)
 
 -- The bytes of records, one after the other.
 unfoldable pub encodeAll : List NodeRecord → List ℕ

@@ -4,9 +4,8 @@ ghost use mathlib.Core.List.{_++_};
 ghost use Prim.Native.Nat.{_+_, _*_, _-_, _≤_, _<_};
 ghost use lib.ListN.{length, drop, replicate};
 ghost use lib.Seq.{sets};
-ghost use Rattle.buffers.specs.Bytes.{twoBytes};
-ghost use Rattle.store.specs.Records.{recordLength, fields, encode, ofKind, recordAt, capacity};
-ghost use Rattle.store.specs.Code.{recordOf, FitsBytes, HasPlace};
+ghost use Rattle.store.specs.Records.{recordLength, nextPlace, nextBytes, mostNext, fields, encode, Fits, ofKind, recordAt, setNext, capacity};
+ghost use Rattle.store.specs.Code.{recordOf, HasPlace};
 use sheet::Condition;
 use sheet::Lot;
 
@@ -15,6 +14,9 @@ pub const RECORD_LENGTH: usize = 8;
 
 // The most node records that a store has.
 pub const MOST_NODES: usize = 65535;
+
+// Where in a node record its next stands.
+const NEXT_PLACE: usize = 6;
 
 // The number of a node record, from 1; zero stands for none. Term records (sheet::Record) have numbers of their own.
 pub struct NodeNumber(pub u32);
@@ -48,42 +50,56 @@ fn place_of(number: NodeNumber) -> usize
     RECORD_LENGTH * (n - 1)
 }
 
+// Writes the next of the node record that begins at a place.
+fn put_next(store: &mut [u8], at: usize, next: NodeNumber)
+    requires { ⌜ (at + recordLength ≤ length (now store)) × (next .0 ≤ mostNext) ⌝ }
+    ensures { λ _. ⌜ now (store .exit) ≡ sets (now (store .entry)) (at + nextPlace) (nextBytes (next .0)) ⌝ }
+{
+    buffers::put_number(store, at + NEXT_PLACE, next.0 as u16);
+}
+
 // Writes the fields of a node record.
-fn put_fields(store: &mut [u8], number: NodeNumber, kind: u8, first: u16, second: u16, next: u16)
-    requires { ⌜ HasPlace (now store) (number .0) ⌝ }
+fn put_fields(
+    store: &mut [u8],
+    number: NodeNumber,
+    kind: u8,
+    first: u16,
+    second: u16,
+    next: NodeNumber,
+)
+    requires { ⌜ HasPlace (now store) (number .0) × (next .0 ≤ mostNext) ⌝ }
     ensures { λ _. ⌜ now (store .exit)
-        ≡ sets (now (store .entry)) (recordLength * (number .0 - 1)) (fields kind first second next) ⌝ }
+        ≡ sets (now (store .entry)) (recordLength * (number .0 - 1)) (fields kind first second (next .0)) ⌝ }
 {
     let at = place_of(number);
     store[at] = kind;
     store[at + 1] = 0;
     buffers::put_number(store, at + 2, first);
     buffers::put_number(store, at + 4, second);
-    buffers::put_number(store, at + 6, next);
+    put_next(store, at, next);
 }
 
 // Writes a node record.
 pub fn write(store: &mut [u8], number: NodeNumber, node: NodeRecord)
-    requires { ⌜ HasPlace (now store) (number .0) × FitsBytes node ⌝ }
+    requires { ⌜ HasPlace (now store) (number .0) × Fits (recordOf node) ⌝ }
     ensures { λ _. ⌜ now (store .exit)
         ≡ sets (now (store .entry)) (recordLength * (number .0 - 1)) (encode (recordOf node)) ⌝ }
 {
     match node {
-        NodeRecord::Split(a, b, next) => put_fields(store, number, 1, a.0, b.0, next.0 as u16),
-        NodeRecord::Ground(c) => put_fields(store, number, 2, c.0, 0, 0),
-        NodeRecord::Met => put_fields(store, number, 3, 0, 0, 0),
-        NodeRecord::Other => put_fields(store, number, 0, 0, 0, 0),
+        NodeRecord::Split(a, b, next) => put_fields(store, number, 1, a.0, b.0, next),
+        NodeRecord::Ground(c) => put_fields(store, number, 2, c.0, 0, NodeNumber(0)),
+        NodeRecord::Met => put_fields(store, number, 3, 0, 0, NodeNumber(0)),
+        NodeRecord::Other => put_fields(store, number, 0, 0, 0, NodeNumber(0)),
     }
 }
 
 // Writes the next of a node record, once it is known, and leaves the rest of the record as it is.
 pub fn set_next(store: &mut [u8], number: NodeNumber, next: NodeNumber)
-    requires { ⌜ HasPlace (now store) (number .0) × (next .0 < 65536) ⌝ }
-    ensures { λ _. ⌜ now (store .exit)
-        ≡ sets (now (store .entry)) (recordLength * (number .0 - 1) + 6) (twoBytes (next .0)) ⌝ }
+    requires { ⌜ HasPlace (now store) (number .0) × (next .0 ≤ mostNext) ⌝ }
+    ensures { λ _. ⌜ now (store .exit) ≡ setNext (now (store .entry)) (number .0) (next .0) ⌝ }
 {
     let at = place_of(number);
-    buffers::put_number(store, at + 6, next.0 as u16);
+    put_next(store, at, next);
 }
 
 // The node record of these fields, where those that have to be 0 are.
@@ -118,7 +134,7 @@ pub fn read(list: &[u8], number: NodeNumber) -> NodeRecord
     let at = place_of(number);
     let first = buffers::number_at(list, at + 2);
     let second = buffers::number_at(list, at + 4);
-    let next = buffers::number_at(list, at + 6);
+    let next = buffers::number_at(list, at + NEXT_PLACE);
     decode_fields(list[at], list[at + 1], first, second, next)
 }
 

@@ -7,7 +7,7 @@ use borrow.Author.Needs.{needs}
 use lib.ListN.{length, length-set}
 use lib.Seq.{sets}
 use Rattle.buffers.specs.Bytes.{twoBytes}
-use Rattle.store.specs.Records.{fields}
+use Rattle.store.specs.Records.{nextPlace, nextBytes, fields}
 use Rattle.store.proofs.Writes.{fields-stored}
 use Rattle.store.proofs.put_fields.Statement.{statement}
 use Rattle.store.proofs.put_fields.Tie as tie
@@ -44,16 +44,15 @@ add-put-number-2 c = search needs
 put-number-requires-2 : tie.Need-put-number-requires-2
 put-number-requires-2 c κs = omega (arith, first-length (c .before .before .before))
 
-add-put-number-3 : tie.Need-add-put-number-3
-add-put-number-3 c = search needs
-
-put-number-requires-3 : tie.Need-put-number-requires-3
-put-number-requires-3 c κs = omega (arith, second-length (c .before .before .before))
+put-next-requires : tie.Need-put-next-requires
+put-next-requires c κs =
+    let second = c .before .before .before in
+    (omega (arith, second-length second), second .before .before .before .before .before .before .before .before .pre .1)
 
 same-length : tie.Need-same-length
 same-length c =
     let third = c .before .before in
-    third .put-number3 .kept .0 ∙ second-length (third .before .before .before .before)
+    third .put-next .kept .0 ∙ second-length (third .before .before .before .before)
 
 returns : tie.Need-returns
 returns c =
@@ -63,11 +62,11 @@ returns c =
     let placed = first .before .before in
     let a = placed .before .before .args in
     let at = placed .place-of .result in
-    third .put-number3 .ensures
-    ∙ ap (λ (l : List ℕ). sets l (at + 6) (twoBytes (a .next)))
+    third .put-next .ensures
+    ∙ ap (λ (l : List ℕ). sets l (at + nextPlace) (nextBytes (a .next .0)))
     (second .put-number2 .ensures ∙ ap (λ (l : List ℕ). sets l (at + 4) (twoBytes (a .second))) (first .put-number .ensures))
-    ∙ fields-stored (a .store .now) at (a .kind) (a .first) (a .second) (a .next)
-    ∙ ap (λ (i : ℕ). sets (a .store .now) i (fields (a .kind) (a .first) (a .second) (a .next))) (placed .place-of .ensures)
+    ∙ fields-stored (a .store .now) at (a .kind) (a .first) (a .second) (a .next .0)
+    ∙ ap (λ (i : ℕ). sets (a .store .now) i (fields (a .kind) (a .first) (a .second) (a .next .0))) (placed .place-of .ensures)
 
 pub put-fields-spec : {M : Type 1} → statement M
 put-fields-spec =
@@ -81,7 +80,6 @@ put-fields-spec =
     put-number-requires
     add-put-number-2
     put-number-requires-2
-    add-put-number-3
-    put-number-requires-3
+    put-next-requires
     same-length
     returns)

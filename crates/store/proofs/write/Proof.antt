@@ -8,13 +8,10 @@ use Rattle.store.proofs.write.Tie as tie
 enum-known-node : tie.Need-enum-known-node
 enum-known-node c = search needs
 
-cast-put-fields : tie.Need-cast-put-fields
-cast-put-fields c =
-    let told = c .before .before .before in
-    omega (arith, rw (told .node .given .1) at (told .before .before .before .pre .1))
-
 put-fields-requires : tie.Need-put-fields-requires
-put-fields-requires c κs = search needs
+put-fields-requires c κs =
+    let told = c .before .before in
+    (told .before .before .before .pre .0, rw (told .node .given .1) at (told .before .before .before .pre .1) .2)
 
 enum-known-node-2 : tie.Need-enum-known-node-2
 enum-known-node-2 c = search needs
@@ -39,7 +36,7 @@ same-length c = search needs
 
 returns : tie.Need-returns
 unfolding encode
-returns c = let call = c .before .before in rw (call .before .before .before .before .node .given .1) (call .put-fields .ensures)
+returns c = let call = c .before .before in rw (call .before .before .before .node .given .1) (call .put-fields .ensures)
 
 same-length-2 : tie.Need-same-length-2
 same-length-2 c = search needs
@@ -67,7 +64,6 @@ write-spec =
     tie.close
     (tie.spec
     enum-known-node
-    cast-put-fields
     put-fields-requires
     enum-known-node-2
     put-fields-requires-2
