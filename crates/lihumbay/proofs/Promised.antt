@@ -26,10 +26,10 @@ use Rattle.refutation.specs.Refutation.{listVerdict, checkAnswer}
 use Rattle.checker.specs.declared.CheckAnswer.{CheckAnswer}
 use Rattle.checker.specs.declared.CheckAnswer.the-variants as check
 use Rattle.checker.specs.Answers.{checkedAnswer, PassedExactly, PassedMeans}
-use Rattle.exports.specs.Answers.{numbersOf}
-use Rattle.exports.specs.Promises.{ZeroExactly, NineExactly, OneExactly, OneMeets, TwoExactly, TwoRefutes, NodesBounded, FirstUnmet, ZeroPassed, ZeroMeans}
-use Rattle.exports.proofs.Early.{refusal-early}
-use Rattle.exports.proofs.Numbered.{refusal-numbered}
+use Rattle.lihumbay.specs.Answers.{numbersOf}
+use Rattle.lihumbay.specs.Promises.{ZeroExactly, NineExactly, OneExactly, OneMeets, TwoExactly, TwoRefutes, NodesBounded, FirstUnmet, ZeroPassed, ZeroMeans}
+use Rattle.lihumbay.proofs.Early.{refusal-early}
+use Rattle.lihumbay.proofs.Numbered.{refusal-numbered}
 
 -- A sheet that is refused is not accepted, and the check is not 0: a call with a grouping would fail it too.
 pub zero-exactly : (s : List ℕ) (a : Reading) → readingAnswer a ≡ readAnswer s → ZeroExactly (numbersOf (readingAnswer a)) s

@@ -14,7 +14,7 @@ use Rattle.sheet.proofs.Further.{further}
 use Rattle.equality.proofs.Checked.{sheet-refused}
 use Rattle.store.specs.Records.{NodeRecord, splitRecord, groundRecord, metRecord, noRecord, recordLength, mostNodes, recordsOf}
 use Rattle.refutation.specs.Refutation.{Split, Nearest, noSplit, sameSplit, turned, mostSplits, decisionsOf, groundFails, nearest, mustEnd, afterGround, named, conditionInRange, walkRecord, walkFrom, check10, walkVerdict, listVerdict}
-use Rattle.exports.proofs.Early.{refusal-early}
+use Rattle.lihumbay.proofs.Early.{refusal-early}
 
 abbrev Numbered : Verdict → Type 0
 Numbered Passes = Unit {0}

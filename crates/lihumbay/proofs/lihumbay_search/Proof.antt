@@ -1,10 +1,10 @@
--- `exports::lihumbay_search`: the numbers of the search's answer, and the two buffers as it leaves them.
+-- `lihumbay::lihumbay_search`: the numbers of the search's answer, and the two buffers as it leaves them.
 use borrow.Author.Needs.{needs}
 use mathlib.Core.Path.{ap, _∙_}
-use Rattle.exports.specs.Answers.{numbersOf}
-use Rattle.exports.proofs.Promised.{nine, one, one-meets, two, two-refutes, bounded}
-use Rattle.exports.proofs.lihumbay_search.Statement.{statement}
-use Rattle.exports.proofs.lihumbay_search.Tie as tie
+use Rattle.lihumbay.specs.Answers.{numbersOf}
+use Rattle.lihumbay.proofs.Promised.{nine, one, one-meets, two, two-refutes, bounded}
+use Rattle.lihumbay.proofs.lihumbay_search.Statement.{statement}
+use Rattle.lihumbay.proofs.lihumbay_search.Tie as tie
 
 search-requires : tie.Need-search-requires
 search-requires c κs = search needs

@@ -1,10 +1,10 @@
--- `exports::lihumbay_evaluate`: the numbers of the evaluator's answer.
+-- `lihumbay::lihumbay_evaluate`: the numbers of the evaluator's answer.
 use borrow.Author.Needs.{needs}
 use mathlib.Core.Path.{ap, _∙_}
-use Rattle.exports.specs.Answers.{numbersOf}
-use Rattle.exports.proofs.Promised.{first-unmet}
-use Rattle.exports.proofs.lihumbay_evaluate.Statement.{statement}
-use Rattle.exports.proofs.lihumbay_evaluate.Tie as tie
+use Rattle.lihumbay.specs.Answers.{numbersOf}
+use Rattle.lihumbay.proofs.Promised.{first-unmet}
+use Rattle.lihumbay.proofs.lihumbay_evaluate.Statement.{statement}
+use Rattle.lihumbay.proofs.lihumbay_evaluate.Tie as tie
 
 evaluate-requires : tie.Need-evaluate-requires
 evaluate-requires c κs = search needs

@@ -1,10 +1,10 @@
--- `exports::lihumbay_check`: the numbers of the checker's answer.
+-- `lihumbay::lihumbay_check`: the numbers of the checker's answer.
 use borrow.Author.Needs.{needs}
 use mathlib.Core.Path.{ap, _∙_}
-use Rattle.exports.specs.Answers.{numbersOf}
-use Rattle.exports.proofs.Promised.{zero-passed, zero-means}
-use Rattle.exports.proofs.lihumbay_check.Statement.{statement}
-use Rattle.exports.proofs.lihumbay_check.Tie as tie
+use Rattle.lihumbay.specs.Answers.{numbersOf}
+use Rattle.lihumbay.proofs.Promised.{zero-passed, zero-means}
+use Rattle.lihumbay.proofs.lihumbay_check.Statement.{statement}
+use Rattle.lihumbay.proofs.lihumbay_check.Tie as tie
 
 check-requires : tie.Need-check-requires
 check-requires c κs = search needs

@@ -13,7 +13,7 @@ use Rattle.equality.specs.Evaluator.{groupingVerdict, GroupingMeets}
 use Rattle.evaluator.specs.Answers.{unmetOr, Evaluated}
 use Rattle.store.specs.Records.{recordLength, capacity}
 use Rattle.refutation.specs.Refutation.{Refutes}
-use Rattle.exports.specs.declared.Numbers.{Numbers}
+use Rattle.lihumbay.specs.declared.Numbers.{Numbers}
 
 -- Of the reader: no check refuses exactly when the sheet is accepted.
 abbrev pub ZeroExactly : Numbers → List ℕ → Type 0

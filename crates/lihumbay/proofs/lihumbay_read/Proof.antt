@@ -1,10 +1,10 @@
--- `exports::lihumbay_read`: the numbers of the reader's answer.
+-- `lihumbay::lihumbay_read`: the numbers of the reader's answer.
 use borrow.Author.Needs.{needs}
 use mathlib.Core.Path.{ap, _∙_}
-use Rattle.exports.specs.Answers.{numbersOf}
-use Rattle.exports.proofs.Promised.{zero-exactly}
-use Rattle.exports.proofs.lihumbay_read.Statement.{statement}
-use Rattle.exports.proofs.lihumbay_read.Tie as tie
+use Rattle.lihumbay.specs.Answers.{numbersOf}
+use Rattle.lihumbay.proofs.Promised.{zero-exactly}
+use Rattle.lihumbay.proofs.lihumbay_read.Statement.{statement}
+use Rattle.lihumbay.proofs.lihumbay_read.Tie as tie
 
 read-requires : tie.Need-read-requires
 read-requires c κs = search needs
