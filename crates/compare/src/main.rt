@@ -15,7 +15,6 @@ mod damage; // damage.rt: damaged refutations
 mod examine; // examine.rt: one sheet, before all solvers and services
 mod generate; // generate.rt: sheets from a generator
 mod groups; // groups.rt: the groups of sheets
-mod hex; // hex.rt: bytes from their digits
 mod line; // line.rt: numbers in a line
 mod partitions; // partitions.rt: the second solver
 mod raw; // raw.rt: bytes and two-byte numbers
