@@ -31,18 +31,18 @@ pub fn examine(sheet: &[u8], wanted: Answer, counts: Counts) -> Counts {
     let answer = services::searched(sheet, &mut grouping, &mut store);
     let borne_out = services::confirmed(sheet, &grouping, &store, answer);
     let verdict = verdict_on(sheet, answer.kind);
-    let agreed = verdict == 0 || verdict == answer.kind;
-    let told = table::agrees(sheet, 128, answer) && refused_short(sheet);
+    let agreed = (verdict == 0) | (verdict == answer.kind);
+    let told = table::agrees(sheet, 128, answer) & refused_short(sheet);
     let tally = counts.tally;
     let lists = counts.lists;
     let sheets = counts.sheets;
-    let differs = !(borne_out && agreed && told && expected(answer, wanted));
+    let differs = !(borne_out & agreed & told & expected(answer, wanted));
     let counted = Counts {
         tally: tally.count(answer.kind, answer.first, verdict, differs),
         lists,
         sheets,
     };
-    if answer.kind == 2 && verdict == 2 {
+    if (answer.kind == 2) & (verdict == 2) {
         damaged(sheet, &mut store, answer.first, counted)
     } else {
         counted
@@ -71,7 +71,7 @@ fn expected(answer: Answer, wanted: Answer) -> bool {
     if wanted.kind == 0 {
         return answer.kind < 3;
     }
-    answer.kind == wanted.kind && answer.first == wanted.first && answer.second == wanted.second
+    (answer.kind == wanted.kind) & (answer.first == wanted.first) & (answer.second == wanted.second)
 }
 
 // The refutation of a sheet with few lots named is damaged, and then the sheet.

@@ -36,13 +36,9 @@ fn in_range(sheet: &[u8], n: u16, m: u16, k: u16, r: u16) -> bool {
     let a = raw::number_at(sheet, raw::term_field(m, r, 2));
     let b = raw::number_at(sheet, raw::term_field(m, r, 4));
     let next = raw::number_at(sheet, raw::term_field(m, r, 6));
-    if sign == 0 || 2 < sign || spare != 0 {
-        return false;
-    }
-    if a == 0 || b == 0 || n < a || n < b {
-        return false;
-    }
-    next <= k
+    let known = (sign == 1) | (sign == 2);
+    let named = (0 < a) & (a <= n) & (0 < b) & (b <= n);
+    known & (spare == 0) & named & (next <= k)
 }
 
 // Check 5: the first record that is not in range, or 0.
@@ -137,8 +133,9 @@ fn first_refusal(sheet: &[u8], room: u16) -> Refusal {
 // right where none of them refuses.
 pub fn agrees(sheet: &[u8], room: u16, answer: Answer) -> bool {
     let r = first_refusal(sheet, room);
-    if answer.kind == 3 && answer.first < 9 {
-        return answer.first == r.check && answer.second == r.place;
+    if (answer.kind == 3) & (answer.first < 9) {
+        (answer.first == r.check) & (answer.second == r.place)
+    } else {
+        r.check == 0
     }
-    r.check == 0
 }
