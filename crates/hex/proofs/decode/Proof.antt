@@ -1,11 +1,11 @@
--- `compare::hex::decode`: no more bytes are put than there is room for, and the high half is a digit's value or none; what is left of the text falls.
+-- `hex::decode`: no more bytes are put than there is room for, and the high half is a digit's value or none; what is left of the text falls.
 use borrow.Author.Needs.{needs}
 use Prim.Native.Nat.{_≤_, _-_}
 use mathlib.Core.Path.{_≡_}
 use native.Mathlib.Omega.{arith}
 use lib.ListN.{length, length-set}
-use Rattle.compare.proofs.hex.decode.Statement.{statement}
-use Rattle.compare.proofs.hex.decode.Tie as tie
+use Rattle.hex.proofs.decode.Statement.{statement}
+use Rattle.hex.proofs.decode.Tie as tie
 
 abbrev Inv-loop : tie.InvT-loop
 Inv-loop text bytes₀ n₀ high₀ i₀ bytes n high i = (n ≤ length bytes) × (high ≤ 16) × (length bytes ≡ length bytes₀)
