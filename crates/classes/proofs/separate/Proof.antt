@@ -1,4 +1,4 @@
--- `classes::Classes::new`: each entry below i is its own lot, and the array keeps its length; what is left of the entries falls.
+-- `classes::separate`: each entry below i is its own lot, and there are as many as before; what is left of the entries falls.
 use borrow.Author.Needs.{needs}
 use Prim.Native.Nat.{ℕ, _-_, _≤_, _<_}
 use mathlib.Core.List.{[]}
@@ -9,14 +9,15 @@ use lib.ListN.{length, getD, length-set}
 use lib.Seq.{ext-getD, getD-set-same, getD-set-other}
 use Rattle.equality.specs.Node.{classes}
 use Rattle.equality.proofs.Classes.{classes-length, no-class}
-use Rattle.classes.proofs.Classes.new.Statement.{statement}
-use Rattle.classes.proofs.Classes.new.Tie as tie
+use Rattle.classes.specs.Maps.{entries}
+use Rattle.classes.proofs.separate.Statement.{statement}
+use Rattle.classes.proofs.separate.Tie as tie
 
 abbrev Inv-loop : tie.InvT-loop
-Inv-loop lots₀ i₀ lots i = (i ≤ 129) × (length lots ≡ 129) × ((k : ℕ) → k < i → getD lots k 0 ≡ k)
+Inv-loop lots₀ i₀ lots i = (i ≤ entries) × (length lots ≡ entries) × ((k : ℕ) → k < i → getD lots k 0 ≡ k)
 
 abbrev μ-loop : tie.MeasureT-loop
-μ-loop lots₀ i₀ lots i = 129 - i
+μ-loop lots₀ i₀ lots i = entries - i
 
 loop-holds : tie.Need-loop-holds Inv-loop μ-loop
 loop-holds c = search needs
@@ -24,8 +25,8 @@ loop-holds c = search needs
 cast-lots : tie.Need-cast-lots Inv-loop μ-loop
 cast-lots c = search needs
 
-array-write-lots : tie.Need-array-write-lots Inv-loop μ-loop
-array-write-lots c = search needs
+slice-write-lots : tie.Need-slice-write-lots Inv-loop μ-loop
+slice-write-lots c = search needs
 
 add-i : tie.Need-add-i Inv-loop μ-loop
 add-i c = search needs
@@ -43,22 +44,26 @@ loop-again c =
           (getD-set-same (h .loop .lots) (h .loop .i) _ 0 (omega arith)),
     )
 
+same-length : tie.Need-same-length Inv-loop μ-loop
+same-length c = search needs
+
 returns : tie.Need-returns Inv-loop μ-loop
 returns c =
     let h = c .before in
     ext-getD 0 (h .loop .lots) (classes []) (h .loop .inv .1 ∙ sym (classes-length []))
     (λ k lt. h .loop .inv .2 k (omega arith) ∙ sym (no-class k (omega arith)))
 
-pub new-spec : {M : Type 1} → statement M
-new-spec =
+pub separate-spec : {M : Type 1} → statement M
+separate-spec =
     tie.close
     (tie.spec
     Inv-loop
     μ-loop
     loop-holds
     cast-lots
-    array-write-lots
+    slice-write-lots
     add-i
     loop-less
     loop-again
+    same-length
     returns)

@@ -1,12 +1,12 @@
--- `levels::joined`, by whether the class is the one, the other or neither.
+-- `classes::joined`, by whether the class is the one, the other or neither.
 use borrow.Author.Tests.{eq-eqb, ne-eqb}
 use Prim.Native.Nat.{min}
 use mathlib.Core.Bool.{or-true}
 use mathlib.Core.Logic.{⊎-elim}
 use mathlib.Core.Path.{_≡_, _∙_}
 use native.Mathlib.Omega.{arith}
-use Rattle.levels.proofs.joined.Statement.{statement}
-use Rattle.levels.proofs.joined.Tie as tie
+use Rattle.classes.proofs.joined.Statement.{statement}
+use Rattle.classes.proofs.joined.Tie as tie
 
 smaller-is : (c : tie.Joined1) → c .if1 .smaller ≡ min (c .before .args .x) (c .before .args .y)
 smaller-is c = ⊎-elim (λ w. omega arith) (λ w. omega arith) (c .if1 .came)
