@@ -1,5 +1,5 @@
 /* The services of Lihumbay, a verified solver for equality conditions: each answers by a proved contract, for every input. README.md, "Calling it from C and
-   Rust", says how to build the archive.
+   Rust", says how to build the archive; docs/FORMAT.md has the bytes of sheets, groupings, stores and lists, with examples.
 
    Buffers. Each is a pointer and then its length in bytes. A pointer is not null, also where the length is 0. Bytes need no alignment. A buffer that is
    written (grouping and store of a search) overlaps no other buffer of the call; buffers that are only read may overlap each other.

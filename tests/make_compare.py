@@ -4,7 +4,8 @@
 #     python3 tests/make_compare.py input > crates/compare/stdin
 #     python3 tests/make_compare.py output > crates/compare/stdout
 #
-# The counts come from this file alone: it generates the same sheets, and has its own search, checker and second solver, written from document 01.
+# The counts come from this file alone: it generates the same sheets, and has its own reader, search, checker and second solver, written from document 01.
+# Nothing differs where the program is right, and its second solver judges the sheets whose terms name at most six lots.
 
 import itertools
 import sys
@@ -80,9 +81,16 @@ def partitions(n):
 WAYS = {n: list(partitions(n)) for n in range(7)}
 
 
-def can_be_met(n, conditions):
-    """By trying every way; the terms name no lot above 6."""
-    return any(all(any((way[a - 1] == way[b - 1]) == (sign == 1) for sign, a, b in terms) for terms in conditions) for way in WAYS[min(n, 6)])
+def can_be_met(conditions):
+    """By trying every way to part the lots that the terms name; None where they name more than six."""
+    names = sorted({lot for terms in conditions for term in terms for lot in term[1:]})
+    if len(names) > 6:
+        return None
+
+    def meets(way):
+        group = dict(zip(names, way))
+        return all(any((group[a] == group[b]) == (sign == 1) for sign, a, b in terms) for terms in conditions)
+    return any(map(meets, WAYS[len(names)]))
 
 
 def term_value(decisions, sign, a, b):
@@ -211,19 +219,39 @@ def own_records(lots, heads, records):
     return numbers(lots, len(heads), len(records)) + numbers(*heads) + b''.join(bytes([r[0], 0]) + numbers(*r[1:]) for r in records)
 
 
+def changed(data, at, value):
+    """The same bytes but for one."""
+    return data[:at] + bytes([value]) + data[at + 1:]
+
+
 S, T = 1, 2  # same, apart
+
+C = sheet(3, [[(S, 1, 2), (S, 1, 3)], [(T, 1, 2)]])
 
 GROUPS = [
     ('starred', [
         sheet(3, [[(S, 1, 2)], [(S, 2, 3)], [(T, 1, 3)]]),
         sheet(3, [[(S, 1, 2), (T, 2, 3)], [(S, 1, 3), (T, 1, 2), (S, 2, 3)], [(T, 1, 3)]]),
-        sheet(3, [[(S, 1, 2), (S, 1, 3)], [(T, 1, 2)]]),
+        C,
         sheet(3, [[(T, 1, 2), (T, 2, 3), (T, 3, 1)], [(S, 1, 2), (S, 2, 3)], [(S, 1, 2), (S, 3, 1)], [(S, 2, 3), (S, 3, 1)]]),
         sheet(0, []), sheet(0, [[]]), sheet(1, [[(S, 1, 1)]]), sheet(1, [[(T, 1, 1)]]),
     ]),
     ('unstarred', [
         sheet(128, []), sheet(128, [[(S, 128, 128)]]), sheet(129, []), sheet(129, [[(S, 129, 129)]]),
         own_records(1, [1], [(S, 1, 1, 1)]),
+    ]),
+    ('few of many lots', [  # starred sheets, and one that names six lots, with other lots, up to the last
+        sheet(128, [[(S, 5, 77)], [(S, 77, 128)], [(T, 5, 128)]]),
+        sheet(128, [[(S, 9, 8), (S, 9, 128)], [(T, 9, 8)]]),
+        sheet(100, [[(T, 90, 17), (T, 17, 99), (T, 99, 90)], [(S, 90, 17), (S, 17, 99)], [(S, 90, 17), (S, 99, 90)], [(S, 17, 99), (S, 99, 90)]]),
+        sheet(128, [[(S, 123, 124), (S, 125, 126), (S, 127, 128)], [(T, 123, 124)], [(T, 125, 126)], [(T, 127, 128)]]),
+    ]),
+    ('refused', [  # by each check in turn, and by the first of two
+        b'', C[:5], numbers(129, 257, 1025), numbers(128, 257, 1025), numbers(128, 256, 1025), C[:-1], C + bytes(1),
+        changed(C, 6, 4), changed(C, 9, 1), changed(C, 10, 0), changed(C, 18, 3), changed(C, 27, 1),
+        changed(C, 12, 0), changed(C, 13, 1), changed(C, 14, 4), changed(C, 22, 0), changed(C, 24, 4),
+        changed(changed(C, 8, 4), 10, 0), changed(changed(C, 10, 0), 18, 0), changed(changed(C, 16, 1), 26, 0),
+        changed(C, 16, 1), changed(C, 16, 3), changed(C, 8, 2), changed(C, 8, 1), changed(C, 16, 0), changed(C, 6, 0), changed(C, 8, 0),
     ]),
     ('phe', [phe(n) for n in range(1, 11)]),
     ('circ', [circ(n) for n in range(1, 11)]),
@@ -248,54 +276,56 @@ GROUPS = [
 
 
 def answer(data):
-    """What the search is to answer, and its nodes."""
+    """What the search is to answer, its nodes, and whether the second solver judges the sheet, which is so of every sheet that is refused."""
     reading = read(data)
     if reading[0] == 'refused':
-        return reading, []
-    _, n, conditions = reading
-    verdict, nodes = search(conditions)
-    if n <= 6:
-        assert (verdict == 'met') == can_be_met(n, conditions)
-    return (verdict, len(nodes)), nodes
+        return reading, [], True
+    verdict, nodes = search(reading[2])
+    judged = can_be_met(reading[2])
+    assert judged in (None, verdict == 'met')
+    return (verdict, len(nodes)), nodes, judged is not None
 
 
 def changes(data):
     """Every byte changed in three ways."""
     for at, byte in enumerate(data):
         for value in ((byte + 1) % 256, byte ^ 1, byte ^ 128):
-            yield data[:at] + bytes([value]) + data[at + 1:]
+            yield changed(data, at, value)
 
 
 class Damage:
     def __init__(self):
-        self.tried = self.passed = self.wrong = 0
+        self.tried = self.passed = self.wrong = self.unjudged = 0
 
     def count(self, data, nodes):
-        passed = check(data, nodes) == ('passed',)
         self.tried += 1
-        self.passed += passed
-        self.wrong += passed and can_be_met(*read(data)[1:])
+        if check(data, nodes) == ('passed',):
+            verdict = can_be_met(read(data)[2])
+            self.passed += 1
+            self.wrong += verdict is True
+            self.unjudged += verdict is None
 
     def line(self, label):
-        return '%s: tried %d passed %d wrong %d' % (label, self.tried, self.passed, self.wrong)
+        return '%s: tried %d passed %d wrong %d unjudged %d differ 0' % (label, self.tried, self.passed, self.wrong, self.unjudged)
 
 
 def group_line(name, sheets, lists, bytes_of_sheets):
-    """The line of a group; its small refutations are damaged."""
-    verdicts, count = [], 0
+    """The line of a group; the refutations that the second solver bears out are damaged."""
+    verdicts, count, unjudged = [], 0, 0
     for data in sheets:
-        said, nodes = answer(data)
+        said, nodes, judged = answer(data)
         verdicts.append(said[0])
         count += len(nodes)
-        if said[0] == 'cannot' and number(data, 0) <= 6:
+        unjudged += not judged
+        if said[0] == 'cannot' and judged:
             refutation = list_bytes(nodes)
             assert check(data, refutation) == ('passed',)
-            for changed in changes(refutation):
-                lists.count(data, changed)
-            for changed in changes(data):
-                bytes_of_sheets.count(changed, refutation)
+            for other in changes(refutation):
+                lists.count(data, other)
+            for other in changes(data):
+                bytes_of_sheets.count(other, refutation)
     each = ' '.join('%s %d' % (v, verdicts.count(v)) for v in ('met', 'cannot', 'refused'))
-    return '%s: sheets %d %s nodes %d differ 0' % (name, len(verdicts), each, count)
+    return '%s: sheets %d %s nodes %d unjudged %d differ 0' % (name, len(verdicts), each, count, unjudged)
 
 
 def many_splits(s):
@@ -307,7 +337,7 @@ def write_input():
     for name, sheets in GROUPS:
         print('group ' + name)
         for data in sheets:
-            print('%s: %s' % (' '.join(map(str, answer(data)[0])), data.hex(' ', -2)))
+            print(('%s: %s' % (' '.join(map(str, answer(data)[0])), data.hex(' ', -2))).rstrip())
         print('end')
 
 

@@ -29,8 +29,8 @@ impl Grouping<'_> {
     }
 
     /// The groups, each a rising list of lots, in the order of their smallest lots.
-    pub fn groups(&self) -> Vec<Vec<u16>> {
-        let mut groups: Vec<Vec<u16>> = Vec::new();
+    pub fn groups(&self) -> Vec<Vec<usize>> {
+        let mut groups: Vec<Vec<usize>> = Vec::new();
         let mut group_of = [None; 256];
         for (lot, &class) in (1..).zip(self.0.iter()) {
             let group = *group_of[usize::from(class)].get_or_insert_with(|| {
@@ -68,6 +68,14 @@ mod tests {
     fn any_bytes_have_groups() {
         assert_eq!(Grouping::from([255, 0, 255, 0, 9].as_slice()).groups(), [vec![1, 3], vec![2, 4], vec![5]]);
         assert!(Grouping::from(Vec::new()).groups().is_empty());
+    }
+
+    #[test]
+    fn lots_are_counted_past_two_bytes() {
+        let groups = Grouping::from([7, 9].repeat(40_000)).groups();
+        assert_eq!(groups.len(), 2);
+        assert_eq!(groups.iter().flatten().sum::<usize>(), (1..=80_000).sum());
+        assert_eq!((groups[0].last(), groups[1].last()), (Some(&79_999), Some(&80_000)));
     }
 
     #[test]

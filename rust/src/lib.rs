@@ -23,7 +23,7 @@
 //! ```
 //!
 //! Sheets also have a text form, [`Sheet`]'s `FromStr` and `Display`. [`raw`] has the services with their numbers as the archive gives them.
-#![warn(missing_debug_implementations)]
+#![warn(missing_debug_implementations, missing_docs)]
 
 mod bytes;
 mod grouping;
@@ -32,22 +32,25 @@ mod line;
 mod list;
 pub mod raw;
 mod record;
+mod records;
 mod refusal;
 mod search;
 mod services;
 mod sheet;
 mod term;
 mod text;
+mod text_error;
 mod walk;
 
 pub use grouping::Grouping;
 pub use limits::*;
-pub use list::{RecordError, RecordList, Records};
+pub use list::RecordList;
 pub use record::Record;
+pub use records::{RecordError, Records};
 pub use refusal::{Check, Refusal, Subject};
 pub use search::{Verdict, search, search_into, search_within};
 pub use services::{Evaluation, Reading, check, evaluate, read};
 pub use sheet::{LimitError, Sheet, SheetBuilder};
 pub use term::{Condition, Term};
-pub use text::TextError;
+pub use text_error::TextError;
 pub use walk::{Above, Branch, Step, Walk};

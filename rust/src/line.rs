@@ -1,7 +1,7 @@
 //! One line of a sheet's text: its words with their columns, and what they say.
 use crate::sheet::SheetBuilder;
 use crate::term::{APART, NEVER, OR, SAME, Term};
-use crate::text::TextError;
+use crate::text_error::TextError;
 use std::iter::Peekable;
 use std::vec::IntoIter;
 

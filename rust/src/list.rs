@@ -1,10 +1,9 @@
 //! Lists of records: a refutation, or the nodes of a search that ended met.
 use crate::limits::RECORD_LENGTH;
 use crate::record::Record;
+use crate::records::{RecordError, Records};
 use crate::walk::Walk;
 use std::borrow::Cow;
-use std::error::Error;
-use std::fmt;
 
 /// The bytes of a list of records, from a search or from any hand.
 ///
@@ -19,15 +18,6 @@ use std::fmt;
 #[derive(Clone, Debug, PartialEq, Eq, Hash)]
 pub struct RecordList<'a>(Cow<'a, [u8]>);
 
-/// A record that can't be read.
-#[derive(Clone, Copy, Debug, PartialEq, Eq, Hash)]
-pub enum RecordError {
-    /// The record with this number has an unknown kind, or a byte that should be 0 and isn't.
-    Unknown(u32),
-    /// The bytes end inside the record with this number.
-    Short(u32),
-}
-
 impl RecordList<'_> {
     /// The bytes, as [`check`](crate::check) takes them.
     pub fn as_bytes(&self) -> &[u8] {
@@ -41,7 +31,7 @@ impl RecordList<'_> {
 
     /// The records with their numbers, from 1.
     pub fn records(&self) -> Records<'_> {
-        Records { rest: &self.0, number: 0 }
+        Records::new(&self.0)
     }
 
     /// The records with their places in the tree that they make.
@@ -76,55 +66,13 @@ impl<'a> IntoIterator for &'a RecordList<'_> {
     }
 }
 
-/// The iterator of [`RecordList::records`]. After a record that can't be read it goes on with the next one.
-#[derive(Clone, Debug)]
-pub struct Records<'a> {
-    rest: &'a [u8],
-    number: u32,
-}
-
-impl Iterator for Records<'_> {
-    type Item = Result<(u32, Record), RecordError>;
-
-    fn next(&mut self) -> Option<Self::Item> {
-        if self.rest.is_empty() {
-            return None;
-        }
-        self.number = self.number.saturating_add(1);
-        let Some((bytes, rest)) = self.rest.split_first_chunk::<RECORD_LENGTH>() else {
-            self.rest = &[];
-            return Some(Err(RecordError::Short(self.number)));
-        };
-        self.rest = rest;
-        Some(Record::from_bytes(*bytes).map(|record| (self.number, record)).ok_or(RecordError::Unknown(self.number)))
-    }
-}
-
-impl std::iter::FusedIterator for Records<'_> {}
-
-impl fmt::Display for RecordError {
-    fn fmt(&self, f: &mut fmt::Formatter) -> fmt::Result {
-        match self {
-            RecordError::Unknown(number) => write!(f, "record {number} is of no known kind"),
-            RecordError::Short(number) => write!(f, "record {number} is cut short"),
-        }
-    }
-}
-
-impl Error for RecordError {}
-
 #[cfg(test)]
 mod tests {
     use super::*;
 
     #[test]
-    fn reading_goes_on_after_an_unknown_record_and_ends_with_a_short_one() {
-        let mut bytes = vec![9; RECORD_LENGTH];
-        bytes.extend(Record::Met.to_bytes().unwrap());
-        bytes.push(1);
-        let list = RecordList::from(bytes);
-        assert_eq!(list.count(), 2);
-        let read: Vec<_> = list.records().collect();
-        assert_eq!(read, [Err(RecordError::Unknown(1)), Ok((2, Record::Met)), Err(RecordError::Short(3))]);
+    fn whole_records_are_counted() {
+        assert_eq!(RecordList::from(vec![9; 2 * RECORD_LENGTH + 1]).count(), 2);
+        assert_eq!(RecordList::from(vec![9; RECORD_LENGTH - 1]).count(), 0);
     }
 }

@@ -5,9 +5,13 @@
 #[repr(C)]
 #[derive(Clone, Copy, Debug, PartialEq, Eq, Hash)]
 pub struct Numbers {
+    /// 0, or the number of the check that refused.
     pub check: u32,
+    /// The first value, or the place of the check.
     pub first: u32,
+    /// The second value, 0 where there is none.
     pub second: u32,
+    /// The third value, 0 where there is none.
     pub third: u32,
 }
 

@@ -6,10 +6,20 @@ use std::fmt;
 #[derive(Clone, Copy, Debug, PartialEq, Eq, Hash)]
 #[non_exhaustive]
 pub enum Record {
-    /// Lots a and b are tried the same, in the records that follow, and then apart, from record `next` on; 0 where that branch was never visited.
-    Split { a: u16, b: u16, next: u32 },
-    /// Every term of the condition is false.
-    Ground { condition: u16 },
+    /// Two lots are tried the same, in the records that follow, and then apart.
+    Split {
+        /// The first lot.
+        a: u16,
+        /// The second lot.
+        b: u16,
+        /// The record where the apart branch begins; 0 where that was never visited.
+        next: u32,
+    },
+    /// Every term of a condition is false.
+    Ground {
+        /// The condition's number.
+        condition: u16,
+    },
     /// Every condition is met.
     Met,
 }

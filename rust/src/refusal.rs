@@ -22,7 +22,7 @@ pub enum Subject {
     List,
 }
 
-/// A service's refusal: the first check that failed, and its place as the table gives it.
+/// A service's refusal: the first check that failed, and its place as the table gives it. Further fields may come.
 ///
 /// ```
 /// let refusal = lihumbay::read(&[3, 0, 1, 0]).unwrap_err();
@@ -30,6 +30,7 @@ pub enum Subject {
 /// assert_eq!(refusal.to_string(), "check 1, the sheet is shorter than its header of 6 bytes");
 /// ```
 #[derive(Clone, Copy, Debug, PartialEq, Eq, Hash)]
+#[non_exhaustive]
 pub struct Refusal {
     /// The check that refused.
     pub check: Check,

@@ -15,12 +15,23 @@ const CANNOT: u32 = 2;
 /// What a search of an accepted sheet comes to.
 #[derive(Clone, Debug, PartialEq, Eq)]
 pub enum Verdict<'a> {
-    /// The grouping meets every condition; the records are the nodes visited, the last one met.
-    Met { grouping: Grouping<'a>, records: RecordList<'a> },
-    /// Nothing meets the sheet, and [`check`](crate::check) passes the refutation.
-    Cannot { refutation: RecordList<'a> },
+    /// Every condition can be met.
+    Met {
+        /// A byte for each lot, and with it every condition is met.
+        grouping: Grouping<'a>,
+        /// The nodes visited, the last one met.
+        records: RecordList<'a>,
+    },
+    /// Nothing meets the sheet.
+    Cannot {
+        /// The nodes visited, which [`check`](crate::check) passes.
+        refutation: RecordList<'a>,
+    },
     /// The search visits more nodes than the store has records. Nothing is known of the sheet.
-    Full { capacity: usize },
+    Full {
+        /// The records that the store has room for.
+        capacity: usize,
+    },
 }
 
 /// Searches with room for the most records that a store can have.

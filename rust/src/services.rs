@@ -5,8 +5,11 @@ use crate::refusal::Refusal;
 /// What the reader answers of an accepted sheet.
 #[derive(Clone, Copy, Debug, PartialEq, Eq, Hash)]
 pub struct Reading {
+    /// The number of lots.
     pub lots: u32,
+    /// The number of conditions.
     pub conditions: u32,
+    /// The number of term records.
     pub terms: u32,
 }
 

@@ -64,13 +64,30 @@ pub struct SheetBuilder {
 #[non_exhaustive]
 pub enum LimitError {
     /// More lots than a sheet can have.
-    Lots { lots: u16 },
+    Lots {
+        /// The lots asked for.
+        lots: u16,
+    },
     /// A condition more than a sheet can have.
     Conditions,
     /// A term more than a sheet can have.
-    Terms { condition: usize, term: usize },
+    Terms {
+        /// The condition that has the term.
+        condition: usize,
+        /// The term within it.
+        term: usize,
+    },
     /// A term names a lot that the sheet doesn't have.
-    Lot { condition: usize, term: usize, lot: u16, lots: u16 },
+    Lot {
+        /// The condition that has the term.
+        condition: usize,
+        /// The term within it.
+        term: usize,
+        /// The lot that it names.
+        lot: u16,
+        /// The lots that the sheet has.
+        lots: u16,
+    },
 }
 
 impl SheetBuilder {

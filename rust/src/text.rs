@@ -2,28 +2,12 @@
 use crate::limits::MOST_LOTS;
 use crate::line::{Line, Written};
 use crate::sheet::{LimitError, Sheet, SheetBuilder};
-use std::error::Error;
+use crate::text_error::TextError;
 use std::fmt;
 use std::str::FromStr;
 
 /// The word before the number of lots.
-pub(crate) const LOTS: &str = "lots";
-
-/// Text that isn't a sheet: where, and why. Lines and columns count from 1, columns in characters.
-#[derive(Clone, Debug, PartialEq, Eq, Hash)]
-pub struct TextError {
-    pub line: usize,
-    pub column: usize,
-    pub why: String,
-}
-
-impl fmt::Display for TextError {
-    fn fmt(&self, f: &mut fmt::Formatter) -> fmt::Result {
-        write!(f, "line {}, column {}: {}", self.line, self.column, self.why)
-    }
-}
-
-impl Error for TextError {}
+const LOTS: &str = "lots";
 
 /// The text form: the line `lots N`, then a line for each condition, which [`FromStr`] reads back as the same sheet.
 impl fmt::Display for Sheet {

@@ -1,6 +1,6 @@
 //! The tree that a list of records makes.
-use crate::list::{RecordError, Records};
 use crate::record::Record;
+use crate::records::{RecordError, Records};
 
 /// The two branches of a split, in the order in which they are tried.
 #[derive(Clone, Copy, Debug, PartialEq, Eq, Hash)]
@@ -14,16 +14,22 @@ pub enum Branch {
 /// A split that a record stands directly under, and the branch in which it does.
 #[derive(Clone, Copy, Debug, PartialEq, Eq, Hash)]
 pub struct Above {
+    /// The number of the split's record.
     pub number: u32,
+    /// The split's first lot.
     pub a: u16,
+    /// Its second lot.
     pub b: u16,
+    /// The branch.
     pub branch: Branch,
 }
 
 /// A record and its place in the tree. The first record stands under nothing; nor does a record left over after the last branch.
 #[derive(Clone, Copy, Debug, PartialEq, Eq, Hash)]
 pub struct Step {
+    /// The record's number, from 1.
     pub number: u32,
+    /// The record.
     pub record: Record,
     /// The number of splits above the record.
     pub depth: usize,

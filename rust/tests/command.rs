@@ -3,7 +3,7 @@ mod support;
 
 use lihumbay::{RECORD_LENGTH, Record};
 use std::io::{BufRead, BufReader, Read, Write};
-use std::process::Stdio;
+use std::process::{Command, Stdio};
 use support::{Run, Scratch, command, encoded, run};
 
 const A: &str = "same 1 2\nsame 2 3\napart 1 3\n";
@@ -242,6 +242,18 @@ fn deep_records_say_how_deep_they_are() {
     let report = run(&["search"], &encoded(&format!("{}\nnever", terms.join(" | "))));
     assert!(report.text().contains(&format!("{}apart 1 41: split 1 42\n", "  ".repeat(40))));
     assert!(report.text().contains(&format!("{}(41 deep) apart 1 42: split 1 43\n", "  ".repeat(40))));
+}
+
+/// One condition with as many "same" terms as a sheet can have, and one with none: a path has a split for each term.
+#[test]
+fn the_deepest_search_needs_no_stack_of_the_command() {
+    let pairs = (1..=46).flat_map(|a| (a + 1..=46).map(move |b| format!("same {a} {b}"))).take(1024).collect::<Vec<_>>();
+    let sheet = Scratch::with("sheet", &encoded(&format!("{}\nnever", pairs.join(" | "))));
+    let mut shell = Command::new("sh");
+    shell.args(["-c", "ulimit -s 256 && exec \"$0\" search \"$1\"", env!("CARGO_BIN_EXE_lihumbay"), sheet.path()]);
+    let output = shell.output().expect("the shell starts");
+    assert_eq!(output.status.code(), Some(1), "{}", String::from_utf8_lossy(&output.stderr));
+    assert!(output.stdout.starts_with(b"cannot be met: refutation of 2049 records\n"));
 }
 
 #[test]

@@ -20,7 +20,8 @@ use Rattle.equality.proofs.Classes.{classes-length}
 use Rattle.equality.proofs.Least.{least}
 use Rattle.equality.proofs.Some.{some-agree}
 use Rattle.refutation.specs.Refutation.{notFalse, groundFails, named}
-use Rattle.checker.specs.Table.{cell, Unmarked, stamped, ClassesWithin, ClassMap, allows}
+use Rattle.classes.specs.Maps.{ClassesWithin, ClassMap}
+use Rattle.checker.specs.Table.{cell, Unmarked, stamped, allows}
 use Rattle.checker.proofs.Marks.{marks-say}
 
 -- The classes of a path are lots, and so they are a class map.

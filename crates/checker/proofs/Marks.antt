@@ -17,7 +17,8 @@ use Rattle.equality.specs.Opens.{Small}
 use Rattle.refutation.specs.Refutation.{decisionsOf}
 use Rattle.path.specs.declared.Pair.{Pair}
 use Rattle.path.specs.Paths.{splitIn, pathOf, decisionOf}
-use Rattle.checker.specs.Table.{rowLength, tableLength, cell, Unmarked, stampClasses, stamped, ClassesWithin, allowsClasses, allows}
+use Rattle.classes.specs.Maps.{entries, ClassesWithin}
+use Rattle.checker.specs.Table.{tableLength, cell, Unmarked, stampClasses, stamped, allowsClasses, allows}
 
 -- ---- one cell
 
@@ -107,8 +108,8 @@ module _ (cs : List ℕ) (within : ClassesWithin cs) (ds : Decisions) (small : A
       record {
         size = stamped-length cs within 0 marked-table (stamped-length cs within 1 table (none .size) ds) ds;
         zeros = λ i h.
-            let place : cell (i / rowLength) (i % rowLength) ≡ i = omega arith in
-            rw (← place) (zero-at (i / rowLength) (i % rowLength) (omega arith) (omega arith));
+            let place : cell (i / entries) (i % entries) ≡ i = omega arith in
+            rw (← place) (zero-at (i / entries) (i % entries) (omega arith) (omega arith));
       }
     where
       by : (p : Bool) → _≡_ {A = ℕ} (cond p 0 (cond p 1 0)) 0

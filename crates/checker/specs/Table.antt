@@ -1,25 +1,22 @@
 -- A table of marks: a cell for each two classes. For the contracts of the code; this file states nothing of document 01.
-use Prim.Native.Nat.{ℕ, _+_, _*_, _≤_, _<_}
+use Prim.Native.Nat.{ℕ, _+_, _*_, _<_}
 use mathlib.Core.Bool.{Bool, true, false, cond, not, _||_}
 use mathlib.Core.List.{List, [], _∷_}
 use mathlib.Core.Path.{_≡_}
 use lib.ListN.{length, getD, set}
 use lib.Dec.{eqb}
-use Rattle.sheet.specs.Format.{mostLots, conditionCount}
+use Rattle.sheet.specs.Format.{conditionCount}
 use Rattle.sheet.specs.Checks.{Accepted}
 use Rattle.sheet.specs.Conditions.{Term, same, apart}
 use Rattle.equality.specs.Node.{Decisions, classOf}
-use Rattle.levels.specs.Levels.{entries}
+use Rattle.classes.specs.Maps.{entries}
 
--- A row has a cell for each number that a class can have, 0 included; and so many rows has a table.
-abbrev pub rowLength : ℕ
-rowLength = 129
-
+-- A row has a cell for each number that a class can have, as a class map has an entry for each number that a lot can have; and so many rows has a table.
 abbrev pub tableLength : ℕ
-tableLength = 16641
+tableLength = entries * entries
 
 abbrev pub cell : ℕ → ℕ → ℕ
-cell x y = rowLength * x + y
+cell x y = entries * x + y
 
 -- Nothing is marked in a table.
 pub record Unmarked (table : List ℕ) : Type 0 where
@@ -35,15 +32,6 @@ unfoldable pub stamped : ℕ → List ℕ → Decisions → List ℕ → List �
 stamped value cs [] table = table
 stamped value cs (same a b ∷ ds) table = stamped value cs ds table
 stamped value cs (apart a b ∷ ds) table = stampClasses value (classOf cs a) (classOf cs b) (stamped value cs ds table)
-
--- Each lot's class is a lot.
-abbrev pub ClassesWithin : List ℕ → Type 0
-ClassesWithin cs = (lot : ℕ) → lot ≤ mostLots → classOf cs lot ≤ mostLots
-
--- A class map: an entry for each number that a lot can have, and each lot's class is a lot.
-pub record ClassMap (cs : List ℕ) : Type 0 where
-  pub size : length cs ≡ entries
-  pub within : ClassesWithin cs
 
 -- A term is not false, by the classes x and y of its lots and a table of marks: a "same" term whose lots share a class or whose classes are not marked, an
 -- "apart" term whose lots share none.

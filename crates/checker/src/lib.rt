@@ -16,7 +16,9 @@ ghost use Rattle.path.specs.Paths.{splitLength, pathOf, PathWithin};
 ghost use Rattle.levels.specs.Levels.{Walkable};
 ghost use Rattle.checker.specs.Answers.{checkedAnswer, PassedExactly, PassedMeans};
 ghost use Rattle.checker.specs.Steps.{Rest, WalkRest, stepAs, noneLeft, GoesOn};
-ghost use Rattle.checker.specs.Table.{tableLength, Unmarked, stamped, ClassMap, allows, allowsClasses, Checkable};
+ghost use Rattle.classes.specs.Maps.{ClassMap};
+ghost use Rattle.checker.specs.Table.{tableLength, Unmarked, stamped, allows, allowsClasses, Checkable};
+use classes::ENTRIES;
 use sheet::Condition;
 use sheet::Lot;
 use sheet::Reading;
@@ -25,15 +27,12 @@ use sheet::Verdict;
 use store::NodeNumber;
 use store::NodeRecord;
 
-// The cells of a row of the table of marks: one for each number that a class can have, 0 included.
-const ROW_LENGTH: usize = 129;
-
 // The numbers of the longest path, the levels under its splits and above them all, and the cells of the table.
 const PATH_LENGTH: usize = path::SPLIT_LENGTH * MOST_SPLITS;
 
 const LEVELS_LENGTH: usize = MOST_SPLITS + 1;
 
-const TABLE_LENGTH: usize = ROW_LENGTH * ROW_LENGTH;
+const TABLE_LENGTH: usize = ENTRIES * ENTRIES;
 
 // The checker's answer.
 pub enum CheckAnswer {
@@ -67,8 +66,8 @@ fn stamp(table: &mut [u8], path: &[u32], depth: usize, lots: &[u8], value: u8)
             let b = pair.b.0 as usize;
             let x = lots[a] as usize;
             let y = lots[b] as usize;
-            table[ROW_LENGTH * x + y] = value;
-            table[ROW_LENGTH * y + x] = value;
+            table[ENTRIES * x + y] = value;
+            table[ENTRIES * y + x] = value;
         }
         i += 1;
     }
@@ -80,7 +79,7 @@ fn allows(table: &[u8], sign: u8, x: u8, y: u8) -> bool
     ensures { λ r. ⌜ r ≡ allowsClasses (now (table .entry)) (eqb sign 1) x y ⌝ }
 {
     if sign == SAME {
-        x == y || table[ROW_LENGTH * (x as usize) + (y as usize)] != 1
+        x == y || table[ENTRIES * (x as usize) + (y as usize)] != 1
     } else {
         x != y
     }

@@ -22,17 +22,9 @@ module _ (f : ℕ → ℕ) where
   set-suc (x ∷ l) zero v h e = ap (λ (y : ℕ). y ∷ l) e
   set-suc (x ∷ l) (suc i) v h e = ap (λ (r : List ℕ). f x ∷ r) (set-suc l i v (le-of-suc-le-suc h) e)
 
-  left-suc : (l : List ℕ) (i : ℕ) → i < length l → getD l i 0 ≡ f (getD l i 0) → rewritten i l ≡ rewritten (suc i) l
-  left-suc [] i h e = absurd (not-suc-le-zero h)
-  left-suc (x ∷ l) zero h e = ap (λ (y : ℕ). y ∷ l) e
-  left-suc (x ∷ l) (suc i) h e = ap (λ (r : List ℕ). f x ∷ r) (left-suc l i (le-of-suc-le-suc h) e)
-
-  -- A turn that writes the entry, and one that leaves an entry which f does not change.
+  -- A turn writes the entry.
   pub turn-sets : (l : List ℕ) (i v : ℕ) → i < length l → v ≡ f (getD l i 0) → set (rewritten i l) i v ≡ rewritten (i + 1) l
   turn-sets l i v h e = rw add-one (set-suc l i v h e)
-
-  pub turn-leaves : (l : List ℕ) (i : ℕ) → i < length l → getD l i 0 ≡ f (getD l i 0) → rewritten i l ≡ rewritten (i + 1) l
-  turn-leaves l i h e = rw add-one (left-suc l i h e)
 
   -- After the loop every entry is rewritten.
   pub whole : (l : List ℕ) (i : ℕ) → length l ≤ i → rewritten i l ≡ map f l

@@ -1,12 +1,13 @@
 // The classes of a path by value, and its pairs set apart in lent bytes. Each method takes the map and hands it back in its answer.
 ghost use mathlib.Core.Path.{_≡_};
-ghost use mathlib.Core.Bool.{_&&_, _||_};
+ghost use mathlib.Core.Bool.{cond, _&&_, _||_};
 ghost use mathlib.Core.List.{[]};
-ghost use Prim.Native.Nat.{_+_, _*_, _≤_};
+ghost use Prim.Native.Nat.{_+_, _*_, _≤_, min};
 ghost use lib.Dec.{eqb};
 ghost use lib.ListN.{length};
 ghost use Rattle.sheet.specs.Format.{mostLots};
 ghost use Rattle.equality.specs.Node.{merged, classOf, classes, marked};
+ghost use Rattle.classes.specs.Maps.{entries};
 ghost use Rattle.classes.specs.Pairs.{setApart, withPair, PairsWithin};
 use sheet::Lot;
 
@@ -28,6 +29,43 @@ pub struct Smallest {
 pub struct Marked {
     pub classes: Classes,
     pub marked: bool,
+}
+
+// Every lot alone.
+pub fn separate(lots: &mut [u8])
+    requires { ⌜ length (now lots) ≡ entries ⌝ }
+    ensures { λ _. ⌜ now (lots .exit) ≡ classes [] ⌝ }
+{
+    let mut i: usize = 0;
+    while i < lots.len() {
+        lots[i] = i as u8;
+        i += 1;
+    }
+}
+
+// The class that the class z becomes when the classes x and y are joined.
+fn joined(x: u8, y: u8, z: u8) -> u8
+    ensures { λ r. ⌜ r ≡ cond (eqb z x || eqb z y) (min x y) z ⌝ }
+{
+    let smaller = if x < y { x } else { y };
+    if z == x {
+        return smaller;
+    }
+    if z == y {
+        return smaller;
+    }
+    z
+}
+
+// The classes x and y become one: every lot of both gets the smaller of the two numbers. The entries are lent, wherever a map is kept.
+pub fn join_entries(lots: &mut [u8], x: u8, y: u8)
+    ensures { λ _. ⌜ now (lots .exit) ≡ merged x y (now (lots .entry)) ⌝ }
+{
+    let mut i: usize = 0;
+    while i < lots.len() {
+        lots[i] = joined(x, y, lots[i]);
+        i += 1;
+    }
 }
 
 // Of two lots, whose classes are u and v, one is in class x and one in class y.
@@ -53,34 +91,22 @@ impl Classes {
         ensures { λ r. ⌜ r .lots ≡ classes [] ⌝ }
     {
         let mut lots = [0u8; ENTRIES];
-        let mut i: usize = 0;
-        while i < ENTRIES {
-            lots[i] = i as u8;
-            i += 1;
-        }
+        separate(&mut lots);
         Classes { lots }
     }
 
-    // The classes of a and b become one: every lot of both gets the smaller of the two numbers.
+    // The classes of a and b become one.
     pub fn join(self, a: Lot, b: Lot) -> Classes
         requires { ⌜ (a .0 ≤ mostLots) × (b .0 ≤ mostLots) ⌝ }
         ensures { λ r. ⌜ r .lots ≡ merged (classOf (self .lots) (a .0)) (classOf (self .lots) (b .0)) (self .lots) ⌝ }
     {
         let first = a.0 as usize;
         let second = b.0 as usize;
-        let x = self.lots[first];
-        let y = self.lots[second];
-        let smaller = if x < y { x } else { y };
-        let mut next = self;
-        let mut i: usize = 0;
-        while i < ENTRIES {
-            let z = next.lots[i];
-            if z == x || z == y {
-                next.lots[i] = smaller;
-            }
-            i += 1;
-        }
-        next
+        let mut lots = self.lots;
+        let x = lots[first];
+        let y = lots[second];
+        join_entries(&mut lots, x, y);
+        Classes { lots }
     }
 
     // The smallest lot of a lot's class.

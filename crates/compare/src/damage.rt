@@ -1,8 +1,9 @@
 // Damaged refutations: each byte of a list, and each byte of its sheet, changed in three ways. A list that passes for a sheet that the second solver can
-// meet is wrong.
+// meet is wrong, and a sheet that is refused otherwise than the second statement of the table refuses it is a difference.
 use crate::partitions;
 use crate::raw;
 use crate::services;
+use crate::table;
 use crate::tally::Damage;
 
 // A byte changed: one more, or its lowest or its highest bit turned.
@@ -18,10 +19,16 @@ fn changed(byte: u8, way: u8) -> u8 {
     }
 }
 
-// What the checker says as the two stand now.
+// What the checker says as the two stand now. The second solver is asked where the list passes.
 fn examined(sheet: &[u8], list: &[u8], damage: Damage) -> Damage {
-    let passed = services::passes(sheet, list);
-    damage.count(passed, passed && partitions::can_be_met(sheet))
+    let answer = services::checked(sheet, list);
+    let passed = answer.kind == 1;
+    let verdict = if passed {
+        partitions::verdict(sheet)
+    } else {
+        2
+    };
+    damage.count(passed, verdict, !table::agrees(sheet, 128, answer))
 }
 
 // One byte of the list changed in one way, and then put back.
@@ -68,10 +75,10 @@ fn sheets(sheet: &mut [u8], list: &[u8], damage: Damage) -> Damage {
     now
 }
 
-// Every byte of the sheet, in a copy. No sheet with six lots that is damaged here has 1,024 bytes.
+// Every byte of the sheet, in a copy. No sheet that is read or generated here has more than 2,048 bytes.
 pub fn copied(sheet: &[u8], list: &[u8], damage: Damage) -> Damage {
-    let mut copy = [0u8; 1024];
-    if 1024 < sheet.len() {
+    let mut copy = [0u8; 2048];
+    if 2048 < sheet.len() {
         return damage;
     }
     let n = bytes::copy(sheet, &mut copy);

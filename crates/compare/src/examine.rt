@@ -1,9 +1,9 @@
 // One sheet, before all solvers and services.
 use crate::damage;
 use crate::partitions;
-use crate::raw;
 use crate::services;
 use crate::services::Answer;
+use crate::table;
 use crate::tally::Damage;
 use crate::tally::Tally;
 
@@ -23,28 +23,47 @@ pub fn new_group(lists: Damage, sheets: Damage) -> Counts {
     }
 }
 
-// A sheet through the search, the two other services and the second solver. `wanted` is the answer that the search is to give; its kind is 0 for a sheet
-// that must be accepted and whose verdict only the second solver knows.
+// A sheet through the search, the two other services, the second solver and the second statement of the table. `wanted` is the answer that the search is
+// to give; its kind is 0 for a sheet that must be accepted and whose verdict only the second solver knows.
 pub fn examine(sheet: &[u8], wanted: Answer, counts: Counts) -> Counts {
     let mut grouping = [0u8; 128];
     let mut store = [0u8; 4096];
     let answer = services::searched(sheet, &mut grouping, &mut store);
     let borne_out = services::confirmed(sheet, &grouping, &store, answer);
-    let agreed = services::agrees(sheet, answer.kind);
+    let verdict = verdict_on(sheet, answer.kind);
+    let agreed = (verdict == 0) | (verdict == answer.kind);
+    let told = table::agrees(sheet, 128, answer) & refused_short(sheet);
     let tally = counts.tally;
     let lists = counts.lists;
     let sheets = counts.sheets;
-    let differs = !(borne_out && agreed && expected(answer, wanted));
+    let differs = !(borne_out & agreed & told & expected(answer, wanted));
     let counted = Counts {
-        tally: tally.count(answer.kind, answer.first, differs),
+        tally: tally.count(answer.kind, answer.first, verdict, differs),
         lists,
         sheets,
     };
-    if answer.kind == 2 {
+    if (answer.kind == 2) & (verdict == 2) {
         damaged(sheet, &mut store, answer.first, counted)
     } else {
         counted
     }
+}
+
+// The second solver's verdict, 0 where it can't judge the sheet; a refusal is not its matter.
+fn verdict_on(sheet: &[u8], kind: u8) -> u8 {
+    if kind < 3 {
+        partitions::verdict(sheet)
+    } else {
+        kind
+    }
+}
+
+// Whether the search, lent a grouping of two bytes, refuses as the table does.
+fn refused_short(sheet: &[u8]) -> bool {
+    let mut grouping = [0u8; 2];
+    let mut store = [0u8; 4096];
+    let answer = services::searched(sheet, &mut grouping, &mut store);
+    table::agrees(sheet, 2, answer)
 }
 
 // Whether the answer is the one wanted.
@@ -52,14 +71,11 @@ fn expected(answer: Answer, wanted: Answer) -> bool {
     if wanted.kind == 0 {
         return answer.kind < 3;
     }
-    answer.kind == wanted.kind && answer.first == wanted.first && answer.second == wanted.second
+    (answer.kind == wanted.kind) & (answer.first == wanted.first) & (answer.second == wanted.second)
 }
 
-// The refutation of a sheet with few lots is damaged, and then the sheet.
+// The refutation of a sheet with few lots named is damaged, and then the sheet.
 fn damaged(sheet: &[u8], store: &mut [u8], count: u32, counts: Counts) -> Counts {
-    if partitions::MOST_LOTS < raw::number_at(sheet, 0) {
-        return counts;
-    }
     let length = 8 * (count as usize);
     if store.len() < length {
         return counts;

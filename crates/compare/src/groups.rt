@@ -2,7 +2,6 @@
 use crate::examine;
 use crate::examine::Counts;
 use crate::generate;
-use crate::hex;
 use crate::line;
 use crate::raw;
 use crate::say;

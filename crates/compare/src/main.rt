@@ -1,6 +1,7 @@
-// The search beside a second solver. Sheets from a generator, and sheets from standard input, are given to the search and, where they have at most six lots,
-// to a solver that tries every way to part the lots and shares no code with it. The checker must pass every refutation, the evaluator every grouping. Then
-// refutations are damaged. Standard input has a line for the start of a group, for its end, and for each sheet:
+// The search beside a second solver. Sheets from a generator, and sheets from standard input, are given to the search and, where their terms name at most six
+// lots, to a solver that tries every way to part these and shares no code with it; sheets that name more are counted as not judged. Refusals are held to a
+// second statement of checks 1 to 8, which shares no code with the reader. The checker must pass every refutation, the evaluator every grouping. Then
+// refutations and their sheets are damaged. Standard input has a line for the start of a group, for its end, and for each sheet:
 //
 //     group NAME
 //     met COUNT: HEX
@@ -15,13 +16,13 @@ mod damage; // damage.rt: damaged refutations
 mod examine; // examine.rt: one sheet, before all solvers and services
 mod generate; // generate.rt: sheets from a generator
 mod groups; // groups.rt: the groups of sheets
-mod hex; // hex.rt: bytes from their digits
 mod line; // line.rt: numbers in a line
 mod partitions; // partitions.rt: the second solver
 mod raw; // raw.rt: bytes and two-byte numbers
 mod say; // say.rt: the lines of the output
 mod services; // services.rt: search, checker and evaluator
 mod splits; // splits.rt: lists with many splits on a path
+mod table; // table.rt: checks 1 to 8, a second time
 mod tally; // tally.rt: what is counted
 
 use libc::STDIN_FILENO;

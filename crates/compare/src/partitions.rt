@@ -1,26 +1,60 @@
-// The second solver: every way to part up to six lots into groups, each asked of the conditions as they stand in the sheet's bytes. It has nothing in
-// common with the search, the checker and the evaluator, nor with what they stand on.
+// The second solver: every way to part the lots that a sheet's terms name, six at most, each asked of the conditions as they stand in the sheet's bytes; what
+// the other lots do matters to no term. It has nothing in common with the search, the checker and the evaluator, nor with what they stand on.
 //
-// A way is a number for each lot, the first lot's 0, each other at most one more than the highest before it: so no way comes twice.
+// A way is a group for each name, the first one's 0, each other at most one more than the highest before it: so no way comes twice.
 use crate::raw;
 
 // The most lots that are parted, and in how many ways.
-pub const MOST_LOTS: u16 = 6;
+const MOST_LOTS: usize = 6;
 
 const WAYS: u16 = 203;
 
-// The group of a lot.
-fn group_of(groups: &[u8], lot: u16) -> u8 {
-    if lot == 0 {
-        return 0;
-    }
-    raw::byte_at(groups, (lot - 1) as usize)
+// A lot as a byte: no accepted sheet names one above 128.
+fn short(lot: u16) -> u8 {
+    (lot % 256) as u8
 }
 
-fn term_true(sheet: &[u8], m: u16, r: u16, groups: &[u8]) -> bool {
+// The names and one more, if it is not among them; how many they are then. Where they have no room for it they are one more than they have room for.
+fn with_name(names: &mut [u8], count: usize, lot: u16) -> usize {
+    if names.len() < count {
+        return count;
+    }
+    if bytes::scan::find(names, 0, count, short(lot)) < count {
+        return count;
+    }
+    raw::put(names, count, short(lot));
+    count + 1
+}
+
+// The lots that the records name; how many they are.
+fn name_lots(sheet: &[u8], m: u16, k: u16, names: &mut [u8]) -> usize {
+    let mut count: usize = 0;
+    let mut r = k;
+    while 0 < r {
+        count = with_name(
+            names,
+            count,
+            raw::number_at(sheet, raw::term_field(m, r, 2)),
+        );
+        count = with_name(
+            names,
+            count,
+            raw::number_at(sheet, raw::term_field(m, r, 4)),
+        );
+        r -= 1;
+    }
+    count
+}
+
+// The group of a lot that is named.
+fn group_of(names: &[u8], groups: &[u8], lot: u16) -> u8 {
+    raw::byte_at(groups, bytes::scan::find(names, 0, names.len(), short(lot)))
+}
+
+fn term_true(sheet: &[u8], m: u16, r: u16, names: &[u8], groups: &[u8]) -> bool {
     let a = raw::number_at(sheet, raw::term_field(m, r, 2));
     let b = raw::number_at(sheet, raw::term_field(m, r, 4));
-    let equal = group_of(groups, a) == group_of(groups, b);
+    let equal = group_of(names, groups, a) == group_of(names, groups, b);
     if raw::byte_at(sheet, raw::term_field(m, r, 0)) == 1 {
         equal
     } else {
@@ -29,14 +63,14 @@ fn term_true(sheet: &[u8], m: u16, r: u16, groups: &[u8]) -> bool {
 }
 
 // Whether some term of the chain is true. A chain has at most 1,024 terms.
-fn condition_met(sheet: &[u8], m: u16, head: u16, groups: &[u8]) -> bool {
+fn condition_met(sheet: &[u8], m: u16, head: u16, names: &[u8], groups: &[u8]) -> bool {
     let mut r = head;
     let mut left: u16 = 1024;
     while 0 < left {
         if r == 0 {
             return false;
         }
-        if term_true(sheet, m, r, groups) {
+        if term_true(sheet, m, r, names, groups) {
             return true;
         }
         r = raw::number_at(sheet, raw::term_field(m, r, 6));
@@ -46,11 +80,11 @@ fn condition_met(sheet: &[u8], m: u16, head: u16, groups: &[u8]) -> bool {
 }
 
 // Whether every condition is met.
-fn all_conditions_met(sheet: &[u8], m: u16, groups: &[u8]) -> bool {
+fn all_conditions_met(sheet: &[u8], m: u16, names: &[u8], groups: &[u8]) -> bool {
     let mut c: u16 = 0;
     while c < m {
         let head = raw::number_at(sheet, 6 + 2 * (c as usize));
-        if !condition_met(sheet, m, head, groups) {
+        if !condition_met(sheet, m, head, names, groups) {
             return false;
         }
         c += 1;
@@ -113,10 +147,10 @@ fn advance(groups: &mut [u8], lots: usize) -> bool {
 }
 
 // Whether some way from this one on meets every condition.
-fn some_way(sheet: &[u8], m: u16, lots: usize, groups: &mut [u8]) -> bool {
+fn some_way(sheet: &[u8], m: u16, lots: usize, names: &[u8], groups: &mut [u8]) -> bool {
     let mut left = WAYS;
     while 0 < left {
-        if all_conditions_met(sheet, m, groups) {
+        if all_conditions_met(sheet, m, names, groups) {
             return true;
         }
         if !advance(groups, lots) {
@@ -127,10 +161,18 @@ fn some_way(sheet: &[u8], m: u16, lots: usize, groups: &mut [u8]) -> bool {
     false
 }
 
-// Whether an accepted sheet can be met, if its terms name no lot above 6.
-pub fn can_be_met(sheet: &[u8]) -> bool {
-    let n = raw::number_at(sheet, 0);
-    let lots = if MOST_LOTS < n { MOST_LOTS } else { n };
-    let mut groups = [0u8; 6];
-    some_way(sheet, raw::number_at(sheet, 2), lots as usize, &mut groups)
+// Whether an accepted sheet can be met, 1, or cannot, 2; 0 where its terms name more lots than are parted.
+pub fn verdict(sheet: &[u8]) -> u8 {
+    let m = raw::number_at(sheet, 2);
+    let mut names = [0u8; MOST_LOTS];
+    let lots = name_lots(sheet, m, raw::number_at(sheet, 4), &mut names);
+    if MOST_LOTS < lots {
+        return 0;
+    }
+    let mut groups = [0u8; MOST_LOTS];
+    if some_way(sheet, m, lots, &names, &mut groups) {
+        1
+    } else {
+        2
+    }
 }

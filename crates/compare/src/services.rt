@@ -1,6 +1,4 @@
 // The services under test, and whether their answers bear each other out.
-use crate::partitions;
-use crate::raw;
 use checker::CheckAnswer;
 use evaluator::Evaluation;
 use search::SearchAnswer;
@@ -55,7 +53,7 @@ pub fn checked(sheet: &[u8], list: &[u8]) -> Answer {
     }
 }
 
-pub fn passes(sheet: &[u8], list: &[u8]) -> bool {
+fn passes(sheet: &[u8], list: &[u8]) -> bool {
     checked(sheet, list).kind == 1
 }
 
@@ -84,18 +82,4 @@ pub fn confirmed(sheet: &[u8], grouping: &[u8], store: &[u8], answer: Answer) ->
         return is_refuted_by(sheet, store, answer.first);
     }
     answer.kind == 3
-}
-
-// Whether the second solver, where it can be asked, has the same verdict.
-pub fn agrees(sheet: &[u8], kind: u8) -> bool {
-    if partitions::MOST_LOTS < raw::number_at(sheet, 0) {
-        return true;
-    }
-    if kind == 1 {
-        partitions::can_be_met(sheet)
-    } else if kind == 2 {
-        !partitions::can_be_met(sheet)
-    } else {
-        kind == 3
-    }
 }

@@ -1,20 +1,25 @@
 // What is counted.
 
-// Of a group of sheets: how many there are, how many of each verdict, the nodes of all searches, and how many on which two answers differ.
+// Of a group of sheets: how many there are, how many of each verdict, the nodes of all searches, how many verdicts the second solver can't judge, and how many
+// sheets on which two answers differ.
 pub struct Tally {
     pub sheets: u32,
     pub met: u32,
     pub cannot: u32,
     pub refused: u32,
     pub nodes: u32,
+    pub unjudged: u32,
     pub differ: u32,
 }
 
-// Of damaged lists or sheets: how many were tried, how many passed the checker all the same, and how many of those are wrong.
+// Of damaged lists or sheets: how many were tried, how many passed the checker all the same, of how many of those the second solver says that they are wrong
+// or can't judge, and how many on which two answers differ.
 pub struct Damage {
     pub tried: u32,
     pub passed: u32,
     pub wrong: u32,
+    pub unjudged: u32,
+    pub differ: u32,
 }
 
 // One more where it is so. There are fewer than a million of anything.
@@ -44,12 +49,13 @@ impl Tally {
             cannot: 0,
             refused: 0,
             nodes: 0,
+            unjudged: 0,
             differ: 0,
         }
     }
 
-    // A sheet more; `count` is that of its nodes where it is met or cannot be.
-    pub fn count(self, kind: u8, count: u32, differs: bool) -> Tally {
+    // A sheet more; `count` is that of its nodes where it is met or cannot be, and the second solver's verdict is 0 where it has none.
+    pub fn count(self, kind: u8, count: u32, verdict: u8, differs: bool) -> Tally {
         Tally {
             sheets: plus(self.sheets, true),
             met: plus(self.met, kind == 1),
@@ -60,6 +66,7 @@ impl Tally {
             } else {
                 self.nodes
             },
+            unjudged: plus(self.unjudged, verdict == 0),
             differ: plus(self.differ, differs),
         }
     }
@@ -71,14 +78,19 @@ impl Damage {
             tried: 0,
             passed: 0,
             wrong: 0,
+            unjudged: 0,
+            differ: 0,
         }
     }
 
-    pub fn count(self, passed: bool, wrong: bool) -> Damage {
+    // One more; the verdict on a sheet for which a list passes: 1 where it can be met.
+    pub fn count(self, passed: bool, verdict: u8, differs: bool) -> Damage {
         Damage {
             tried: plus(self.tried, true),
             passed: plus(self.passed, passed),
-            wrong: plus(self.wrong, wrong),
+            wrong: plus(self.wrong, verdict == 1),
+            unjudged: plus(self.unjudged, verdict == 0),
+            differ: plus(self.differ, differs),
         }
     }
 }

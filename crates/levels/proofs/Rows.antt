@@ -1,14 +1,13 @@
 -- The rows of the maps: what is read in a row, and which writes leave one as it was.
-use Prim.Native.Nat.{ℕ, suc, _+_, _*_, _≤_, _<_, min}
-use mathlib.Core.List.{List, [], map}
+use Prim.Native.Nat.{ℕ, _+_, _*_, _≤_, _<_}
+use mathlib.Core.List.{List, _++_}
 use mathlib.Core.Path.{_≡_, sym, ap, _∙_}
 use native.Mathlib.Omega.{arith}
-use lib.ListN.{length, getD, take, drop, length-take, length-drop, length-map}
-use lib.Seq.{getD-take, getD-drop, ext-getD}
+use lib.ListN.{length, getD, take, drop, length-take, length-drop, take-append-drop}
+use lib.Seq.{getD-take, getD-drop, ext-getD, take-at, drop-at, take-append-le, drop-append-le}
 use Rattle.sheet.specs.Format.{mostLots}
-use Rattle.equality.specs.Node.{merged, classes}
-use Rattle.equality.proofs.Classes.{joinedTo, joined-zero, getD-map, classes-length, no-class}
-use Rattle.levels.specs.Levels.{entries, mapsLength, row}
+use Rattle.classes.specs.Maps.{entries}
+use Rattle.levels.specs.Levels.{mapsLength, row}
 
 -- A row has its entries, each at its place.
 pub row-length : (maps : List ℕ) (level : ℕ) → length maps ≡ mapsLength → level ≤ mostLots → length (row maps level) ≡ entries
@@ -24,11 +23,33 @@ row-is maps level len h l size each =
     ext-getD 0 (row maps level) l (row-length maps level len h ∙ sym size)
     (λ i lt. let below : i < entries = omega (arith, row-length maps level len h) in row-at maps level i below ∙ each i below)
 
--- Row 0 of a map whose first entries are their own numbers is that of no decision.
-pub row-first : (maps : List ℕ) → length maps ≡ mapsLength → ((i : ℕ) → i < entries → getD maps i 0 ≡ i) → row maps 0 ≡ classes []
-row-first maps len each =
-    row-is maps 0 len (omega arith) (classes []) (classes-length [])
-    (λ i lt. let at : entries * 0 + i ≡ i = omega arith in rw at (each i lt ∙ sym (no-class i (omega arith))))
+-- ---- a row written, and those before it
+
+-- What stands past a row's end does not matter to it,
+row-prefix : (s t : List ℕ) (k : ℕ) → entries * k + entries ≤ length s → row (s ++ t) k ≡ row s k
+row-prefix s t k h =
+    rw (drop-append-le (entries * k) s t (omega arith))
+    (take-append-le entries (drop (entries * k) s) t (omega (arith, length-drop (entries * k) s)))
+
+-- and a row is what is put in its place.
+pub row-put : (s ys t : List ℕ) (k : ℕ) → length s ≡ entries * k → length ys ≡ entries → row (s ++ (ys ++ t)) k ≡ ys
+row-put s ys t k len size = rw (drop-at s (ys ++ t) (entries * k) len) (take-at ys t entries size)
+
+module _ (maps : List ℕ) (level : ℕ) (len : length maps ≡ mapsLength) (h : level < mostLots) where
+  -- The maps up to the next row.
+  pub above-length : length (take (entries * (level + 1)) maps) ≡ entries * (level + 1)
+  above-length = omega (arith, length-take (entries * (level + 1)) maps)
+
+  -- They keep a level's row and those before it, whatever comes next.
+  pub rows-above : (t : List ℕ) (k : ℕ) → k ≤ level → row (take (entries * (level + 1)) maps ++ t) k ≡ row maps k
+  rows-above t k le =
+      let s = take (entries * (level + 1)) maps in
+      let within : entries * k + entries ≤ length s = omega (arith, above-length) in
+      row-prefix s t k within
+      ∙ sym (row-prefix s (drop (entries * (level + 1)) maps) k within)
+      ∙ ap (λ (l : List ℕ). row l k) (take-append-drop (entries * (level + 1)) maps)
+
+-- ---- a row that is copied
 
 module _ (maps maps′ : List ℕ) (level : ℕ) (len : length maps ≡ mapsLength) (len′ : length maps′ ≡ mapsLength) where
   -- What is written past a row's end leaves it and those before it as they were,
@@ -37,14 +58,12 @@ module _ (maps maps′ : List ℕ) (level : ℕ) (len : length maps ≡ mapsLeng
       row-is maps′ k len′ (omega arith) (row maps k) (row-length maps k len (omega arith))
       (λ i lt. before (entries * k + i) (omega arith) ∙ sym (row-at maps k i lt))
 
-  -- and a row whose entries are those of another with two classes joined is that.
-  pub row-merged : level < mostLots → (x y : ℕ)
-      → ((i : ℕ) → i < entries → getD maps′ (entries * level + entries + i) 0 ≡ joinedTo x y (getD maps (entries * level + i) 0))
-      → row maps′ (level + 1) ≡ merged x y (row maps level)
-  unfolding merged
-  row-merged h x y each =
-      row-is maps′ (level + 1) len′ (omega arith) (map (joinedTo x y) (row maps level))
-      (simp length-map (row-length maps level len (omega arith)))
+  -- and a row whose entries are those of another is that.
+  pub row-copied : level < mostLots
+      → ((i : ℕ) → i < entries → getD maps′ (entries * level + entries + i) 0 ≡ getD maps (entries * level + i) 0)
+      → row maps′ (level + 1) ≡ row maps level
+  row-copied h each =
+      row-is maps′ (level + 1) len′ (omega arith) (row maps level) (row-length maps level len (omega arith))
       (λ i lt.
       let at : entries * (level + 1) + i ≡ entries * level + entries + i = omega arith in
-      rw at (each i lt ∙ ap (joinedTo x y) (sym (row-at maps level i lt)) ∙ sym (getD-map (joinedTo x y) (joined-zero x y) (row maps level) i)))
+      rw at (each i lt ∙ sym (row-at maps level i lt)))

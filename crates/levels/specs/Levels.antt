@@ -5,16 +5,14 @@ use mathlib.Core.List.{List, [], _∷_}
 use mathlib.Core.Path.{_≡_}
 use lib.ListN.{length, getD, take, drop}
 use Rattle.equality.specs.Node.{Decisions, classes}
+use Rattle.classes.specs.Maps.{entries}
 use Rattle.classes.specs.Joins.{joins}
 use Rattle.refutation.specs.Refutation.{mostSplits, decisionsOf}
 use Rattle.path.specs.Paths.{splitLength, pathOf, PathWithin}
 
--- The entries of a class map, which is a row of the maps; and so many rows has a path's maps, since no path joins more often than there are lots.
-abbrev pub entries : ℕ
-entries = 129
-
+-- A class map is a row of the maps; and as many rows as a map has entries has a path's maps, since no path joins more often than there are lots.
 abbrev pub mapsLength : ℕ
-mapsLength = 16641
+mapsLength = entries * entries
 
 abbrev pub row : List ℕ → ℕ → List ℕ
 row maps level = take entries (drop (entries * level) maps)

@@ -1,9 +1,9 @@
 // The classes under each split of a path, in lent bytes. A row of `maps` is a class map: a split in its same branch that joins two classes writes the next
 // row, and any other leaves them as they are. `levels` has the row under so many splits, so that a turn or a drop goes back to it by its number alone.
 ghost use mathlib.Core.Path.{_≡_};
-ghost use mathlib.Core.Bool.{false, cond, _||_};
+ghost use mathlib.Core.Bool.{false, cond};
 ghost use mathlib.Core.List.{List, [], _∷_};
-ghost use Prim.Native.Nat.{ℕ, _+_, _-_, _*_, _≤_, _<_, min};
+ghost use Prim.Native.Nat.{ℕ, _+_, _-_, _*_, _≤_, _<_};
 ghost use lib.Dec.{eqb};
 ghost use lib.ListN.{length};
 ghost use Rattle.sheet.specs.Format.{mostLots};
@@ -23,25 +23,22 @@ pub fn start(maps: &mut [u8])
     requires { ⌜ length (now maps) ≡ mapsLength ⌝ }
     ensures { λ _. ⌜ row (now (maps .exit)) 0 ≡ classes [] ⌝ }
 {
-    let mut i: usize = 0;
-    while i < ENTRIES {
-        maps[i] = i as u8;
-        i += 1;
-    }
+    classes::separate(&mut maps[..ENTRIES]);
 }
 
-// The class that the class z becomes when the classes x and y are joined.
-fn joined(x: u8, y: u8, z: u8) -> u8
-    ensures { λ r. ⌜ r ≡ cond (eqb z x || eqb z y) (min x y) z ⌝ }
+// The next row becomes that of a level.
+fn copy_row(maps: &mut [u8], level: usize)
+    requires { ⌜ (length (now maps) ≡ mapsLength) × (level < mostLots) ⌝ }
+    ensures next { λ _. ⌜ row (now (maps .exit)) (level + 1) ≡ row (now (maps .entry)) level ⌝ }
+    ensures others { λ _. ⌜ ((k : ℕ) → k ≤ level → row (now (maps .exit)) k ≡ row (now (maps .entry)) k) ⌝ }
 {
-    let smaller = if x < y { x } else { y };
-    if z == x {
-        return smaller;
+    let from = ENTRIES * level;
+    let to = from + ENTRIES;
+    let mut i: usize = 0;
+    while i < ENTRIES {
+        maps[to + i] = maps[from + i];
+        i += 1;
     }
-    if z == y {
-        return smaller;
-    }
-    z
 }
 
 // The next row: that of a level, with the classes x and y joined.
@@ -50,14 +47,10 @@ fn join_row(maps: &mut [u8], level: usize, x: u8, y: u8)
     ensures next { λ _. ⌜ row (now (maps .exit)) (level + 1) ≡ merged x y (row (now (maps .entry)) level) ⌝ }
     ensures others { λ _. ⌜ ((k : ℕ) → k ≤ level → row (now (maps .exit)) k ≡ row (now (maps .entry)) k) ⌝ }
 {
-    let from = ENTRIES * level;
-    let to = from + ENTRIES;
-    let mut i: usize = 0;
-    while i < ENTRIES {
-        let z = maps[from + i];
-        maps[to + i] = joined(x, y, z);
-        i += 1;
-    }
+    copy_row(maps, level);
+    let to = ENTRIES * (level + 1);
+    let end = to + ENTRIES;
+    classes::join_entries(&mut maps[to..end], x, y);
 }
 
 // The level of the classes of a level with those of a and b joined: its own, where they are one already, or the next.

@@ -4,8 +4,6 @@
 //
 // The sheet's bytes are in hexadecimal; blanks may stand anywhere among the digits. Standard output has the label on a line of its own and then the
 // printed text. There is room for 8,192 bytes of cases and 1,024 of a sheet, which is plenty for these. tests/make_examples.py writes the input.
-mod hex; // hex.rt: bytes from their digits
-
 ghost use Prim.Native.Nat.{_<_, _≤_};
 ghost use lib.ListN.{length};
 use libc::STDIN_FILENO;

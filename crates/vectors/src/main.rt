@@ -4,8 +4,8 @@
 // four numbers, and a checksum of the second and of the third buffer after the call. The program compares nothing itself.
 ghost use Prim.Native.Nat.{_≤_};
 ghost use lib.ListN.{length};
-use exports::Numbers;
 use libc::STDOUT_FILENO;
+use lihumbay::Numbers;
 
 fn main() {
     let path = b"cases.bin";
@@ -79,13 +79,13 @@ fn run(service: u8, sheet: &[u8], second: &mut [u8], third: &mut [u8]) {
 
 fn call(service: u8, sheet: &[u8], second: &mut [u8], third: &mut [u8]) -> Numbers {
     if service == 0 {
-        exports::lihumbay_read(sheet)
+        lihumbay::lihumbay_read(sheet)
     } else if service == 1 {
-        exports::lihumbay_search(sheet, second, third)
+        lihumbay::lihumbay_search(sheet, second, third)
     } else if service == 2 {
-        exports::lihumbay_check(sheet, second)
+        lihumbay::lihumbay_check(sheet, second)
     } else {
-        exports::lihumbay_evaluate(sheet, second)
+        lihumbay::lihumbay_evaluate(sheet, second)
     }
 }
 

@@ -56,8 +56,8 @@ fn indentation(depth: usize) -> String {
 }
 
 /// Lots parted by spaces.
-fn spaced(lots: &[u16]) -> String {
-    lots.iter().map(u16::to_string).collect::<Vec<_>>().join(" ")
+fn spaced(lots: &[usize]) -> String {
+    lots.iter().map(usize::to_string).collect::<Vec<_>>().join(" ")
 }
 
 /// A count and its noun.

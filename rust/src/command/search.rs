@@ -4,7 +4,7 @@ use super::ending::{Failure, Status};
 use super::sheets::{self, Accepted};
 use super::wait::with_notice;
 use super::{dot, files, report};
-use lihumbay::Verdict;
+use lihumbay::{MOST_LOTS, RECORD_LENGTH, Refusal, SEARCH_STACK, Verdict};
 use std::io::{self, IsTerminal};
 use std::time::Duration;
 
@@ -13,8 +13,8 @@ const LONG: Duration = Duration::from_secs(1);
 
 pub fn run(search: &Search) -> Result<Status, Failure> {
     let accepted = sheets::read(&search.sheet)?;
-    let work = || lihumbay::search_within(&accepted.bytes, search.records);
-    let verdict = with_notice(work, LONG, notice).map_err(|refusal| search.sheet.failure(refusal))?;
+    let (mut grouping, mut store) = ([0; MOST_LOTS], vec![0; search.records * RECORD_LENGTH]);
+    let verdict = searched(&accepted.bytes, &mut grouping, &mut store).map_err(|refusal| search.sheet.failure(refusal))?;
     // The files come first: a reader of the report who stops early loses none of them.
     save(search, &verdict)?;
     if search.dot {
@@ -27,6 +27,11 @@ pub fn run(search: &Search) -> Result<Status, Failure> {
         Verdict::Cannot { .. } => Status::No,
         Verdict::Full { .. } => Status::Full,
     })
+}
+
+/// One thread is started, with the stack that a search needs, and searches; this one waits.
+fn searched<'a>(sheet: &[u8], grouping: &'a mut [u8], store: &'a mut [u8]) -> Result<Verdict<'a>, Refusal> {
+    with_notice(SEARCH_STACK, move || lihumbay::search_into(sheet, grouping, store), LONG, notice)
 }
 
 fn notice() {

@@ -6,6 +6,7 @@ pub mod damage;
 pub mod families;
 pub mod laws;
 pub mod lists;
+pub mod page;
 pub mod random;
 pub mod run;
 pub mod sheets;

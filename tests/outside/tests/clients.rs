@@ -16,7 +16,7 @@ fn client(name: &str) -> PathBuf {
 /// Where the archive lies: as the package that links it has it.
 fn archive() -> PathBuf {
     let folder = env::var_os("LIHUMBAY_ARCHIVE").map(PathBuf::from).unwrap_or_else(|| root().join("target/staticlib"));
-    folder.join("libexports.a")
+    folder.join("liblihumbay.a")
 }
 
 fn built(name: &str) -> PathBuf {

@@ -3,6 +3,7 @@ use borrow.Author.Needs.{needs}
 use mathlib.Core.Path.{refl}
 use native.Mathlib.Omega.{arith}
 use Rattle.levels.proofs.Leveling.{walkable-none}
+use Rattle.checker.specs.Table.{tableLength}
 use Rattle.checker.proofs.Marks.{zeros}
 use Rattle.checker.proofs.check_list.Statement.{statement}
 use Rattle.checker.proofs.check_list.Tie as tie
@@ -29,7 +30,7 @@ walk-requires : tie.Need-walk-requires
 walk-requires c κs =
     let start = c .before .before .before .before .before .before .before .before .before in
     let first = c .before .before .before .before .before .start in
-    (start .pre .0, start .pre .1, start .pre .2, walkable-none _ _ _ (omega arith) (first .kept .0) (omega arith) refl (first .ensures), record { size = refl; zeros = zeros 16641 })
+    (start .pre .0, start .pre .1, start .pre .2, walkable-none _ _ _ (omega arith) (first .kept .0) (omega arith) refl (first .ensures), record { size = refl; zeros = zeros tableLength })
 
 returns : tie.Need-returns
 returns c = search needs

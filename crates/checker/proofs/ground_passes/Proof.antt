@@ -17,7 +17,8 @@ use Rattle.refutation.specs.Refutation.{decisionsOf, groundFails, named}
 use Rattle.path.specs.Paths.{pathOf}
 use Rattle.path.proofs.Within.{within-small}
 use Rattle.levels.proofs.Leveling.{top-classes, top-level}
-use Rattle.checker.specs.Table.{Unmarked, stamped, ClassMap, allows}
+use Rattle.classes.specs.Maps.{ClassMap}
+use Rattle.checker.specs.Table.{Unmarked, stamped, allows}
 use Rattle.checker.proofs.Marks.{marks-cleared}
 use Rattle.checker.proofs.Grounds.{class-map, classes-within, ground-agrees}
 use Rattle.checker.proofs.ground_passes.Statement.{statement}

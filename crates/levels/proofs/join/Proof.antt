@@ -9,7 +9,8 @@ use lib.Dec.{eqb}
 use lib.ListN.{getD}
 use Rattle.equality.specs.Node.{merged, classOf}
 use Rattle.classes.proofs.Joins.{merged-self}
-use Rattle.levels.specs.Levels.{entries, row}
+use Rattle.classes.specs.Maps.{entries}
+use Rattle.levels.specs.Levels.{row}
 use Rattle.levels.proofs.Rows.{row-at}
 use Rattle.levels.proofs.join.Statement.{statement}
 use Rattle.levels.proofs.join.Tie as tie

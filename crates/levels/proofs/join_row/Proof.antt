@@ -1,102 +1,74 @@
--- `levels::join_row`: below i every entry of the next row is that of the joined classes, and what stands before that row is as it was; what is left of the
--- entries falls.
+-- `levels::join_row`: the next row is copied from the level's, lent, and comes back with the classes joined; those before it are as they were.
 use borrow.Author.Needs.{needs}
-use Prim.Native.Nat.{ℕ, _+_, _-_, _*_, _≤_, _<_}
-use mathlib.Core.Path.{_≡_, refl, sym, ap, _∙_}
+use Prim.Native.Nat.{ℕ, _+_, _*_, _-_}
+use mathlib.Core.List.{List}
+use mathlib.Core.Path.{_≡_, ap, _∙_}
 use native.Mathlib.Omega.{arith}
-use borrow.Author.Count.{below-more}
-use lib.ListN.{length, getD, length-set}
-use lib.Seq.{getD-set-same, getD-set-other}
-use Rattle.equality.proofs.Classes.{joinedTo}
-use Rattle.levels.specs.Levels.{entries, mapsLength}
-use Rattle.levels.proofs.Rows.{rows-before, row-merged}
+use borrow.Rule.Slice.PartMut.{putMid}
+use lib.ListN.{length, take, drop}
+use Rattle.equality.specs.Node.{merged}
+use Rattle.classes.specs.Maps.{entries}
+use Rattle.levels.proofs.Rows.{row-length, row-put, above-length, rows-above}
 use Rattle.levels.proofs.join_row.Statement.{statement}
 use Rattle.levels.proofs.join_row.Tie as tie
 
-abbrev Inv-loop : tie.InvT-loop
-Inv-loop maps₀ level x y from to i₀ maps i =
-    (i ≤ entries)
-    × (length maps ≡ mapsLength)
-    × ((j : ℕ) → j < to → getD maps j 0 ≡ getD maps₀ j 0)
-    × ((k : ℕ) → k < i → getD maps (to + k) 0 ≡ joinedTo x y (getD maps₀ (from + k) 0))
+copy-row-requires : tie.Need-copy-row-requires
+copy-row-requires c κs = search needs
 
-abbrev μ-loop : tie.MeasureT-loop
-μ-loop maps₀ level x y from to i₀ maps i = entries - i
-
-mul-from : tie.Need-mul-from Inv-loop μ-loop
-mul-from c = search needs
-
-add-to : tie.Need-add-to Inv-loop μ-loop
+add-to : tie.Need-add-to
 add-to c = search needs
 
-loop-holds : tie.Need-loop-holds Inv-loop μ-loop
-loop-holds c = (omega arith, c .before .pre .0, (λ j h. refl), (λ k h. absurd (omega arith)))
+mul-to : tie.Need-mul-to
+mul-to c = search needs
 
-add-z : tie.Need-add-z Inv-loop μ-loop
-add-z c = search needs
+add-end : tie.Need-add-end
+add-end c = search needs
 
-slice-read-z : tie.Need-slice-read-z Inv-loop μ-loop
-slice-read-z c = search needs
+sub-join-entries : tie.Need-sub-join-entries
+sub-join-entries c = search needs
 
-joined-requires : tie.Need-joined-requires Inv-loop μ-loop
-joined-requires c κs = search needs
+part-join-entries-start : tie.Need-part-join-entries-start
+part-join-entries-start c = search needs
 
-add-maps : tie.Need-add-maps Inv-loop μ-loop
-add-maps c = search needs
+part-join-entries-end : tie.Need-part-join-entries-end
+part-join-entries-end c = search needs
 
-slice-write-maps : tie.Need-slice-write-maps Inv-loop μ-loop
-slice-write-maps c = search needs
+join-entries-requires : tie.Need-join-entries-requires
+join-entries-requires c κs = search needs
 
-add-i : tie.Need-add-i Inv-loop μ-loop
-add-i c = search needs
-
-loop-less : tie.Need-loop-less Inv-loop μ-loop
-loop-less c = search needs
-
-loop-again : tie.Need-loop-again Inv-loop μ-loop
-loop-again c =
-    let h = c .before .before .before in
-    let start = h .before .before in
-    let maps = h .loop .maps in
-    let i = h .loop .i in (
-      omega arith,
-      simp length-set (h .loop .inv .1),
-      (λ j lt. getD-set-other maps (entries * start .args .level + entries + i) j _ 0 (λ e. omega arith) ∙ h .loop .inv .2 j lt),
-      below-more _ i
-          (λ k lt. getD-set-other maps (entries * start .args .level + entries + i) (entries * start .args .level + entries + k) _ 0 (λ e. omega arith) ∙ h .loop .inv .3 k lt)
-          (getD-set-same maps (entries * start .args .level + entries + i) _ 0 (omega (arith, start .pre .1, h .loop .inv .1))
-          ∙ c .joined .ensures
-          ∙ ap (joinedTo (start .args .x) (start .args .y)) (h .loop .inv .2 (entries * start .args .level + i) (omega arith))),
-    )
-
-same-length : tie.Need-same-length Inv-loop μ-loop
+same-length : tie.Need-same-length
 same-length c = search needs
 
-returns : tie.Need-returns Inv-loop μ-loop
+returns : tie.Need-returns
 returns c =
-    let h = c .before in
-    let start = h .before .before in (
-      row-merged (start .args .maps .now) (h .loop .maps) (start .args .level) (start .pre .0) (h .loop .inv .1) (start .pre .1) (start .args .x) (start .args .y)
-          (λ i lt. h .loop .inv .3 i (omega arith)),
-      rows-before (start .args .maps .now) (h .loop .maps) (start .args .level) (start .pre .0) (h .loop .inv .1) (omega (arith, start .pre .1)) (h .loop .inv .2),
+    let lent = c .before .before .join-entries in
+    let copy = c .before .before .before .before .before .before in
+    let start = copy .before .before .before in
+    let level = start .args .level in
+    let copied = copy .copy-row .last .0 in
+    let to = entries * (level + 1) in
+    let size : to + entries - to ≡ entries = omega arith in
+    let len = copy .copy-row .kept .0 ∙ start .pre .0 in
+    let part = ap (λ (k : ℕ). take k (drop to copied)) size in
+    let rest = drop (to + entries - to) (drop to copied) in (
+      row-put (take to copied) (lent .last .0) rest (level + 1) (above-length copied level len (start .pre .1))
+          (lent .kept .0 ∙ ap length part ∙ row-length copied (level + 1) len (omega (arith, start .pre .1)))
+          ∙ lent .ensures
+          ∙ ap (merged (start .args .x) (start .args .y)) (part ∙ copy .copy-row .ensures .0),
+      (λ k le. rows-above copied level len (start .pre .1) _ k le ∙ copy .copy-row .ensures .1 k le),
     )
 
 pub join-row-spec : {M : Type 1} → statement M
 join-row-spec =
     tie.close
     (tie.spec
-    Inv-loop
-    μ-loop
-    mul-from
+    copy-row-requires
     add-to
-    loop-holds
-    add-z
-    slice-read-z
-    joined-requires
-    add-maps
-    slice-write-maps
-    add-i
-    loop-less
-    loop-again
+    mul-to
+    add-end
+    sub-join-entries
+    part-join-entries-start
+    part-join-entries-end
+    join-entries-requires
     same-length
     returns)

@@ -1,66 +1,43 @@
--- `levels::start`: each entry below i is its own number, and the maps have their length; what is left of the entries falls.
+-- `levels::start`: the first row is lent, and comes back with every lot alone.
 use borrow.Author.Needs.{needs}
-use Prim.Native.Nat.{ℕ, _-_, _≤_, _<_}
-use mathlib.Core.Path.{_≡_, _∙_}
+use Prim.Native.Nat.{ℕ}
+use mathlib.Core.List.{List, []}
+use mathlib.Core.Path.{_≡_, sym, ap, _∙_}
 use native.Mathlib.Omega.{arith}
-use borrow.Author.Count.{below-more}
-use lib.ListN.{length, getD, length-set}
-use lib.Seq.{getD-set-same, getD-set-other}
-use Rattle.levels.specs.Levels.{entries, mapsLength}
-use Rattle.levels.proofs.Rows.{row-first}
+use lib.ListN.{length, take, drop, length-take}
+use Rattle.classes.specs.Maps.{entries}
+use Rattle.levels.proofs.Rows.{row-length, row-put}
 use Rattle.levels.proofs.start.Statement.{statement}
 use Rattle.levels.proofs.start.Tie as tie
 
-abbrev Inv-loop : tie.InvT-loop
-Inv-loop maps₀ i₀ maps i = (i ≤ entries) × (length maps ≡ mapsLength) × ((k : ℕ) → k < i → getD maps k 0 ≡ k)
+slice-relend-prefix-separate : tie.Need-slice-relend-prefix-separate
+slice-relend-prefix-separate c = search needs
 
-abbrev μ-loop : tie.MeasureT-loop
-μ-loop maps₀ i₀ maps i = entries - i
+slice-aggregate-separate : tie.Need-slice-aggregate-separate
+slice-aggregate-separate c =
+    let start = c .before .before in
+    sym (row-length (start .args .maps .now) 0 (start .pre) (omega arith))
 
-loop-holds : tie.Need-loop-holds Inv-loop μ-loop
-loop-holds c = search needs
+separate-requires : tie.Need-separate-requires
+separate-requires c κs =
+    let start = c .before .before in
+    row-length (start .args .maps .now) 0 (start .pre) (omega arith)
 
-cast-maps : tie.Need-cast-maps Inv-loop μ-loop
-cast-maps c = search needs
-
-slice-write-maps : tie.Need-slice-write-maps Inv-loop μ-loop
-slice-write-maps c = search needs
-
-add-i : tie.Need-add-i Inv-loop μ-loop
-add-i c = search needs
-
-loop-less : tie.Need-loop-less Inv-loop μ-loop
-loop-less c = search needs
-
-loop-again : tie.Need-loop-again Inv-loop μ-loop
-loop-again c =
-    let h = c .before in (
-      search needs,
-      simp length-set (omega arith),
-      below-more _ _
-          (λ k lt. getD-set-other (h .loop .maps) (h .loop .i) k _ 0 (λ e. omega arith) ∙ h .loop .inv .2 k lt)
-          (getD-set-same (h .loop .maps) (h .loop .i) _ 0 (omega arith)),
-    )
-
-same-length : tie.Need-same-length Inv-loop μ-loop
+same-length : tie.Need-same-length
 same-length c = search needs
 
-returns : tie.Need-returns Inv-loop μ-loop
+returns : tie.Need-returns
 returns c =
-    let h = c .before in
-    row-first (h .loop .maps) (h .loop .inv .1) (λ k lt. h .loop .inv .2 k (omega arith))
+    let lent = c .before .before .separate in
+    let start = c .before .before .before .before .before in
+    row-put [] (lent .last .0) _ 0 (omega arith) (lent .kept .0 ∙ row-length (start .args .maps .now) 0 (start .pre) (omega arith)) ∙ lent .ensures
 
 pub start-spec : {M : Type 1} → statement M
 start-spec =
     tie.close
     (tie.spec
-    Inv-loop
-    μ-loop
-    loop-holds
-    cast-maps
-    slice-write-maps
-    add-i
-    loop-less
-    loop-again
+    slice-relend-prefix-separate
+    slice-aggregate-separate
+    separate-requires
     same-length
     returns)

@@ -4,7 +4,8 @@ use Prim.Native.Nat.{ℕ, _+_, _-_, _*_}
 use mathlib.Core.Path.{_≡_, ap}
 use native.Mathlib.Omega.{arith}
 use lib.ListN.{take, drop}
-use Rattle.levels.specs.Levels.{entries, levelUnder}
+use Rattle.classes.specs.Maps.{entries}
+use Rattle.levels.specs.Levels.{levelUnder}
 use Rattle.levels.proofs.top.Statement.{statement}
 use Rattle.levels.proofs.top.Tie as tie
 

@@ -6,17 +6,11 @@ use native.Mathlib.Omega.{arith}
 use Rattle.compare.proofs.examine.damaged.Statement.{statement}
 use Rattle.compare.proofs.examine.damaged.Tie as tie
 
-number-at-requires : tie.Need-number-at-requires
-number-at-requires c κs = search needs
-
-returns : tie.Need-returns
-returns c = search needs
-
 mul-length : tie.Need-mul-length
 mul-length c = search needs
 
-returns-2 : tie.Need-returns-2
-returns-2 c = search needs
+returns : tie.Need-returns
+returns c = search needs
 
 slice-relend-prefix-damaged-both : tie.Need-slice-relend-prefix-damaged-both
 slice-relend-prefix-damaged-both c = search needs
@@ -30,19 +24,17 @@ damaged-both-requires c κs = search needs
 same-length : tie.Need-same-length
 same-length c = search needs
 
-returns-3 : tie.Need-returns-3
-returns-3 c = search needs
+returns-2 : tie.Need-returns-2
+returns-2 c = search needs
 
 pub damaged-spec : {M : Type 1} → statement M
 damaged-spec =
     tie.close
     (tie.spec
-    number-at-requires
-    returns
     mul-length
-    returns-2
+    returns
     slice-relend-prefix-damaged-both
     slice-aggregate-damaged-both
     damaged-both-requires
     same-length
-    returns-3)
+    returns-2)

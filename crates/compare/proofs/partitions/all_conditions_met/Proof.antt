@@ -5,10 +5,10 @@ use Rattle.compare.proofs.partitions.all_conditions_met.Statement.{stat
 use Rattle.compare.proofs.partitions.all_conditions_met.Tie as tie
 
 abbrev Inv-loop : tie.InvT-loop
-Inv-loop sheet m groups c₀ c = c ≤ m
+Inv-loop sheet m names groups c₀ c = c ≤ m
 
 abbrev μ-loop : tie.MeasureT-loop
-μ-loop sheet m groups c₀ c = m - c
+μ-loop sheet m names groups c₀ c = m - c
 
 loop-holds : tie.Need-loop-holds Inv-loop μ-loop
 loop-holds c = search needs

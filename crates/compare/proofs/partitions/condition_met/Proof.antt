@@ -5,10 +5,10 @@ use Rattle.compare.proofs.partitions.condition_met.Statement.{statement
 use Rattle.compare.proofs.partitions.condition_met.Tie as tie
 
 abbrev Inv-loop : tie.InvT-loop
-Inv-loop sheet m head groups r₀ left₀ r left = left ≤ 1024
+Inv-loop sheet m head names groups r₀ left₀ r left = left ≤ 1024
 
 abbrev μ-loop : tie.MeasureT-loop
-μ-loop sheet m head groups r₀ left₀ r left = left
+μ-loop sheet m head names groups r₀ left₀ r left = left
 
 loop-holds : tie.Need-loop-holds Inv-loop μ-loop
 loop-holds c = search needs

@@ -7,10 +7,10 @@ use Rattle.compare.proofs.partitions.some_way.Statement.{statement}
 use Rattle.compare.proofs.partitions.some_way.Tie as tie
 
 abbrev Inv-loop : tie.InvT-loop
-Inv-loop sheet m lots groups₀ left₀ groups left = (length groups ≡ length groups₀) × (left ≤ 203)
+Inv-loop sheet m lots names groups₀ left₀ groups left = (length groups ≡ length groups₀) × (left ≤ 203)
 
 abbrev μ-loop : tie.MeasureT-loop
-μ-loop sheet m lots groups₀ left₀ groups left = left
+μ-loop sheet m lots names groups₀ left₀ groups left = left
 
 loop-holds : tie.Need-loop-holds Inv-loop μ-loop
 loop-holds c = search needs

@@ -130,7 +130,7 @@ put-byte-requires c κs =
 same-length : tie.Need-same-length
 same-length c =
     let end = c .before .before in
-    end .put-byte .kept .0 ∙ terms-given (end .before .before .before .before) .kept
+    end .put-byte .kept .0 ∙ terms-given (end .before .before .before .before) .sized
 
 returns : tie.Need-returns
 returns c =

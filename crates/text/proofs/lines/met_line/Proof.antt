@@ -113,7 +113,7 @@ same-length : tie.Need-same-length Inv-loop μ-loop
 same-length c =
     let end = c .before .before in
     let loop′ = end .before .before in
-    end .put-byte .kept .0 ∙ fields-given loop′ .kept ∙ named (loop′ .before .before .before .before) .kept
+    end .put-byte .kept .0 ∙ fields-given loop′ .sized ∙ named (loop′ .before .before .before .before) .sized
 
 returns : tie.Need-returns Inv-loop μ-loop
 returns c =

@@ -60,7 +60,7 @@ loop-again c =
     )
 
 same-length : tie.Need-same-length Inv-loop μ-loop
-same-length c = c .before .loop .inv .0 .kept
+same-length c = c .before .loop .inv .0 .sized
 
 returns : tie.Need-returns Inv-loop μ-loop
 returns c =

@@ -57,7 +57,7 @@ number-line-requires c κs =
 same-length : tie.Need-same-length
 same-length c =
     let end = c .before .before in
-    end .number-line .kept .0 ∙ recorded (end .before .before .before .before .before) .kept
+    end .number-line .kept .0 ∙ recorded (end .before .before .before .before .before) .sized
 
 returns : tie.Need-returns
 unfolding cannotLine

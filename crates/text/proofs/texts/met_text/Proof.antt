@@ -68,7 +68,7 @@ met-line-requires c κs =
 same-length : tie.Need-same-length
 same-length c =
     let end = c .before .before in
-    end .met-line .kept .0 ∙ recorded (end .before .before .before .before) .kept
+    end .met-line .kept .0 ∙ recorded (end .before .before .before .before) .sized
 
 returns : tie.Need-returns
 returns c =

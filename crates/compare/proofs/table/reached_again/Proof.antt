@@ -1,0 +1,112 @@
+-- `compare::table::reached_again`: the steps left fall, no more conditions are begun than there are, and a record number has two bytes.
+use borrow.Author.Needs.{needs}
+use Prim.Native.Nat.{_≤_, _<_}
+use mathlib.Core.Path.{_≡_}
+use lib.ListN.{length}
+use Rattle.compare.proofs.table.reached_again.Statement.{statement}
+use Rattle.compare.proofs.table.reached_again.Tie as tie
+
+abbrev Inv-loop : tie.InvT-loop
+Inv-loop sheet m reached₀ c₀ r₀ left₀ reached c r left = (c ≤ m) × (r < 65536) × (length reached ≡ length reached₀)
+
+abbrev μ-loop : tie.MeasureT-loop
+μ-loop sheet m reached₀ c₀ r₀ left₀ reached c r left = left
+
+loop-holds : tie.Need-loop-holds Inv-loop μ-loop
+loop-holds c = search needs
+
+sub-left : tie.Need-sub-left Inv-loop μ-loop
+sub-left c = search needs
+
+same-length : tie.Need-same-length Inv-loop μ-loop
+same-length c = search needs
+
+returns : tie.Need-returns Inv-loop μ-loop
+returns c = search needs
+
+cast-number-at : tie.Need-cast-number-at Inv-loop μ-loop
+cast-number-at c = search needs
+
+mul-number-at : tie.Need-mul-number-at Inv-loop μ-loop
+mul-number-at c = search needs
+
+add-number-at : tie.Need-add-number-at Inv-loop μ-loop
+add-number-at c = search needs
+
+number-at-requires : tie.Need-number-at-requires Inv-loop μ-loop
+number-at-requires c κs = search needs
+
+add-c : tie.Need-add-c Inv-loop μ-loop
+add-c c = search needs
+
+loop-less : tie.Need-loop-less Inv-loop μ-loop
+loop-less c = search needs
+
+loop-again : tie.Need-loop-again Inv-loop μ-loop
+loop-again c = search needs
+
+cast-byte-at : tie.Need-cast-byte-at Inv-loop μ-loop
+cast-byte-at c = search needs
+
+byte-at-requires : tie.Need-byte-at-requires Inv-loop μ-loop
+byte-at-requires c κs = search needs
+
+same-length-2 : tie.Need-same-length-2 Inv-loop μ-loop
+same-length-2 c = search needs
+
+returns-2 : tie.Need-returns-2 Inv-loop μ-loop
+returns-2 c = search needs
+
+cast-put : tie.Need-cast-put Inv-loop μ-loop
+cast-put c = search needs
+
+put-requires : tie.Need-put-requires Inv-loop μ-loop
+put-requires c κs = search needs
+
+term-field-requires : tie.Need-term-field-requires Inv-loop μ-loop
+term-field-requires c κs = search needs
+
+number-at-requires-2 : tie.Need-number-at-requires-2 Inv-loop μ-loop
+number-at-requires-2 c κs = search needs
+
+loop-less-2 : tie.Need-loop-less-2 Inv-loop μ-loop
+loop-less-2 c = search needs
+
+loop-again-2 : tie.Need-loop-again-2 Inv-loop μ-loop
+loop-again-2 c = search needs
+
+same-length-3 : tie.Need-same-length-3 Inv-loop μ-loop
+same-length-3 c = search needs
+
+returns-3 : tie.Need-returns-3 Inv-loop μ-loop
+returns-3 c = search needs
+
+pub reached-again-spec : {M : Type 1} → statement M
+reached-again-spec =
+    tie.close
+    (tie.spec
+    Inv-loop
+    μ-loop
+    loop-holds
+    sub-left
+    same-length
+    returns
+    cast-number-at
+    mul-number-at
+    add-number-at
+    number-at-requires
+    add-c
+    loop-less
+    loop-again
+    cast-byte-at
+    byte-at-requires
+    same-length-2
+    returns-2
+    cast-put
+    put-requires
+    term-field-requires
+    number-at-requires-2
+    loop-less-2
+    loop-again-2
+    same-length-3
+    returns-3)

@@ -1,0 +1,56 @@
+-- What the numbers promise of the sheet, beside the equations: for callers who see only them.
+use Prim.Native.Nat.{ℕ, _+_, _*_, _<_}
+use mathlib.Core.List.{List}
+use mathlib.Core.Logic.{_↔_}
+use mathlib.Core.Path.{_≡_}
+use lib.ListN.{take}
+use Rattle.sheet.specs.declared.Verdict.the-variants.{Passes}
+use Rattle.sheet.specs.Checks.{Accepted}
+use Rattle.sheet.specs.Conditions.{conditions}
+use Rattle.equality.specs.Meaning.{Meets}
+use Rattle.equality.specs.Search.{searchTree, nodeCount, branching}
+use Rattle.equality.specs.Evaluator.{groupingVerdict, GroupingMeets}
+use Rattle.evaluator.specs.Answers.{unmetOr, Evaluated}
+use Rattle.store.specs.Records.{recordLength, capacity}
+use Rattle.refutation.specs.Refutation.{Refutes}
+use Rattle.lihumbay.specs.declared.Numbers.{Numbers}
+
+-- Of the reader: no check refuses exactly when the sheet is accepted.
+abbrev pub ZeroExactly : Numbers → List ℕ → Type 0
+ZeroExactly r s = r .check ≡ 0 ↔ Accepted s
+
+-- Store full exactly when no earlier check refuses and the search visits more nodes than the store holds records.
+abbrev pub NineExactly : Numbers → List ℕ → List ℕ → List ℕ → Type 0
+NineExactly r s grouping store = r .check ≡ 9 ↔ (groupingVerdict s grouping ≡ Passes) × (capacity store < nodeCount (searchTree (conditions s)))
+
+-- Of a search that was not refused: 1 exactly when somebody could give the lots whole numbers that meet every condition,
+abbrev pub OneExactly : Numbers → List ℕ → Type 0
+OneExactly r s = r .check ≡ 0 → (r .first ≡ 1 ↔ (f : ℕ → ℕ) × Meets f s)
+
+-- and then the grouping as it is at exit meets them;
+abbrev pub OneMeets : Numbers → List ℕ → List ℕ → Type 0
+OneMeets r s grouping′ = r .check ≡ 0 → r .first ≡ 1 → GroupingMeets grouping′ s
+
+-- 2 exactly when nobody could,
+abbrev pub TwoExactly : Numbers → List ℕ → Type 0
+TwoExactly r s = r .check ≡ 0 → (r .first ≡ 2 ↔ ((f : ℕ → ℕ) → ¬ Meets f s))
+
+-- and then the counted records of the store as it is at exit are a refutation.
+abbrev pub TwoRefutes : Numbers → List ℕ → List ℕ → Type 0
+TwoRefutes r s store′ = r .check ≡ 0 → r .first ≡ 2 → Refutes s (take (recordLength * r .second) store′)
+
+-- The nodes are at most 2 × P − 1: the count is below 2 × P, and a store that is full holds fewer than 2 × P − 1 records.
+abbrev pub NodesBounded : Numbers → List ℕ → Type 0
+NodesBounded r s = (r .check ≡ 0 → r .second < 2 * branching (conditions s)) × (r .check ≡ 9 → r .first + 1 < 2 * branching (conditions s))
+
+-- Of an evaluation that was not refused: 0, and the grouping meets the sheet; or the lowest condition that it doesn't meet.
+abbrev pub FirstUnmet : Numbers → List ℕ → List ℕ → Type 0
+FirstUnmet r s grouping = r .check ≡ 0 → Evaluated (unmetOr (r .first)) s grouping
+
+-- Of the checker: no check refuses exactly when the list is a refutation,
+abbrev pub ZeroPassed : Numbers → List ℕ → List ℕ → Type 0
+ZeroPassed r s list = r .check ≡ 0 ↔ Refutes s list
+
+-- and then nobody can meet the sheet, whatever the list and from whichever hand.
+abbrev pub ZeroMeans : Numbers → List ℕ → Type 0
+ZeroMeans r s = r .check ≡ 0 → (f : ℕ → ℕ) → ¬ Meets f s

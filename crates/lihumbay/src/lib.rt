@@ -1,0 +1,133 @@
+// The services for callers in C and Rust: functions over slices, each a pointer and then a length, that answer four numbers.
+ghost use mathlib.Core.Path.{_≡_};
+ghost use Rattle.sheet.specs.Answers.{refused, answered, readAnswer, readingAnswer};
+ghost use Rattle.equality.specs.Evaluator.{evaluateAnswer};
+ghost use Rattle.evaluator.specs.Answers.{evaluationAnswer};
+ghost use Rattle.outcome.specs.Outcome.{searchOutcome};
+ghost use Rattle.search.specs.Answers.{searchAnswer};
+ghost use Rattle.refutation.specs.Refutation.{checkAnswer};
+ghost use Rattle.checker.specs.Answers.{checkedAnswer};
+ghost use Rattle.lihumbay.specs.Answers.{numbersOf};
+ghost use Rattle.lihumbay.specs.Promises.{ZeroExactly, NineExactly, OneExactly, OneMeets, TwoExactly, TwoRefutes, NodesBounded, FirstUnmet, ZeroPassed, ZeroMeans};
+use checker::CheckAnswer;
+use evaluator::Evaluation;
+use search::SearchAnswer;
+use sheet::Reading;
+
+// An answer: the check that refused, 0 where none did, then the place, or the values.
+#[repr(C)]
+pub struct Numbers {
+    pub check: u32,
+    pub first: u32,
+    pub second: u32,
+    pub third: u32,
+}
+
+fn refused(check: u32, place: u32) -> Numbers
+    ensures { λ r. ⌜ r ≡ numbersOf (refused check place) ⌝ }
+{
+    Numbers {
+        check,
+        first: place,
+        second: 0,
+        third: 0,
+    }
+}
+
+fn answered(first: u32, second: u32, third: u32) -> Numbers
+    ensures { λ r. ⌜ r ≡ numbersOf (answered first second third) ⌝ }
+{
+    Numbers {
+        check: 0,
+        first,
+        second,
+        third,
+    }
+}
+
+fn of_reading(reading: Reading) -> Numbers
+    ensures { λ r. ⌜ r ≡ numbersOf (readingAnswer reading) ⌝ }
+{
+    match reading {
+        Reading::Refused { check, place } => refused(check, place),
+        Reading::Accepted {
+            lots,
+            conditions,
+            terms,
+        } => answered(lots as u32, conditions as u32, terms as u32),
+    }
+}
+
+fn of_evaluation(evaluation: Evaluation) -> Numbers
+    ensures { λ r. ⌜ r ≡ numbersOf (evaluationAnswer evaluation) ⌝ }
+{
+    match evaluation {
+        Evaluation::Refused { check, place } => refused(check, place),
+        Evaluation::Unmet(c) => answered(c.0 as u32, 0, 0),
+        Evaluation::AllMet => answered(0, 0, 0),
+    }
+}
+
+fn of_search(answer: SearchAnswer) -> Numbers
+    ensures { λ r. ⌜ r ≡ numbersOf (searchAnswer answer) ⌝ }
+{
+    match answer {
+        SearchAnswer::Refused { check, place } => refused(check, place),
+        SearchAnswer::Full { capacity } => refused(9, capacity),
+        SearchAnswer::Met { count } => answered(1, count, 0),
+        SearchAnswer::Cannot { count } => answered(2, count, 0),
+    }
+}
+
+fn of_check(answer: CheckAnswer) -> Numbers
+    ensures { λ r. ⌜ r ≡ numbersOf (checkedAnswer answer) ⌝ }
+{
+    match answer {
+        CheckAnswer::Refused { check, place } => refused(check, place),
+        CheckAnswer::Passed => answered(0, 0, 0),
+    }
+}
+
+// The reader: lots, conditions and terms.
+#[no_mangle]
+pub extern "C" fn lihumbay_read(sheet: &[u8]) -> Numbers
+    ensures answer { λ r. ⌜ r ≡ numbersOf (readAnswer (now (sheet .entry))) ⌝ }
+    ensures accepted { λ r. ⌜ ZeroExactly r (now (sheet .entry)) ⌝ }
+{
+    of_reading(sheet::read(sheet))
+}
+
+// The evaluator: 0 where all conditions are met, else the lowest that isn't.
+#[no_mangle]
+pub extern "C" fn lihumbay_evaluate(sheet: &[u8], grouping: &[u8]) -> Numbers
+    ensures answer { λ r. ⌜ r ≡ numbersOf (evaluateAnswer (now (sheet .entry)) (now (grouping .entry))) ⌝ }
+    ensures meaning { λ r. ⌜ FirstUnmet r (now (sheet .entry)) (now (grouping .entry)) ⌝ }
+{
+    of_evaluation(evaluator::evaluate(sheet, grouping))
+}
+
+// The search: 1 for met or 2 for cannot, and the count of records.
+#[no_mangle]
+pub extern "C" fn lihumbay_search(sheet: &[u8], grouping: &mut [u8], store: &mut [u8]) -> Numbers
+    ensures answer { λ r. ⌜ r ≡ numbersOf (searchOutcome (now (sheet .entry)) (now (grouping .entry)) (now (store .entry)) .answer) ⌝ }
+    ensures grouping { λ r. ⌜ now (grouping .exit) ≡ searchOutcome (now (sheet .entry)) (now (grouping .entry)) (now (store .entry)) .grouping ⌝ }
+    ensures store { λ r. ⌜ now (store .exit) ≡ searchOutcome (now (sheet .entry)) (now (grouping .entry)) (now (store .entry)) .store ⌝ }
+    ensures full { λ r. ⌜ NineExactly r (now (sheet .entry)) (now (grouping .entry)) (now (store .entry)) ⌝ }
+    ensures met { λ r. ⌜ OneExactly r (now (sheet .entry)) ⌝ }
+    ensures meets { λ r. ⌜ OneMeets r (now (sheet .entry)) (now (grouping .exit)) ⌝ }
+    ensures cannot { λ r. ⌜ TwoExactly r (now (sheet .entry)) ⌝ }
+    ensures refutes { λ r. ⌜ TwoRefutes r (now (sheet .entry)) (now (store .exit)) ⌝ }
+    ensures count { λ r. ⌜ NodesBounded r (now (sheet .entry)) ⌝ }
+{
+    of_search(search::search(sheet, grouping, store))
+}
+
+// The refutation checker: no value where the list passes.
+#[no_mangle]
+pub extern "C" fn lihumbay_check(sheet: &[u8], list: &[u8]) -> Numbers
+    ensures answer { λ r. ⌜ r ≡ numbersOf (checkAnswer (now (sheet .entry)) (now (list .entry))) ⌝ }
+    ensures passed { λ r. ⌜ ZeroPassed r (now (sheet .entry)) (now (list .entry)) ⌝ }
+    ensures meaning { λ r. ⌜ ZeroMeans r (now (sheet .entry)) ⌝ }
+{
+    of_check(checker::check(sheet, list))
+}
