@@ -9,15 +9,14 @@ use borrow.Author.Tests.{le-leb, lt-leb, leb-true, leb-false}
 use lib.Dec.{leb}
 use lib.ListN.{length, length-append}
 use lib.Seq.{sets, length-sets}
-use Rattle.buffers.specs.Bytes.{twoBytes}
 use Rattle.equality.specs.Node.{Decisions}
 use Rattle.equality.specs.Search.{Tree, metLeaf, groundLeaf, oneBranch, twoBranches, isMet, nodeCount, metDecisions, groupingBytes}
-use Rattle.store.specs.Records.{NodeRecord, splitRecord, groundRecord, metRecord, recordLength, encode, encodeAll, mostNodes, capacity}
+use Rattle.store.specs.Records.{NodeRecord, splitRecord, groundRecord, metRecord, recordLength, setNext, encode, encodeAll, mostNodes, capacity}
 use Rattle.outcome.specs.Nodes.{records}
 use Rattle.store.proofs.Codec.{encode-length, encodeAll-append}
 use Rattle.outcome.proofs.Fitting.{bytes-count, node-count}
-use Rattle.buffers.proofs.Sets.{sets-sets, sets-before}
-use Rattle.store.proofs.Writes.{next-set}
+use Rattle.buffers.proofs.Sets.{sets-sets}
+use Rattle.store.proofs.Writes.{after-record, next-after}
 use Rattle.search.specs.declared.Visited.{Visited}
 use Rattle.search.specs.declared.Visited.the-variants.{Met, Cannot, Full}
 use Rattle.search.specs.Visited.{endWith, endOf, groupingEnd, Explored}
@@ -79,23 +78,6 @@ module _ (before : ℕ) (store store′ grouping : List ℕ) (room : before < ca
       })
 
 -- ---- a split
-
--- Bytes after a record's.
-after-record : (r : NodeRecord) (bytes store : List ℕ) (before : ℕ)
-    → sets (sets store (recordLength * before) (encode r)) (recordLength * (before + 1)) bytes ≡ sets store (recordLength * before) (encode r ++ bytes)
-after-record r bytes store before =
-    let place : recordLength * (before + 1) ≡ recordLength * before + length (encode r) = omega (arith, encode-length r) in
-    rw place (sets-sets (encode r) bytes store (recordLength * before))
-
--- The split's next, set after the records of its same branch.
-next-after : (a b next : ℕ) (bytes store : List ℕ) (before : ℕ)
-    → sets (sets (sets store (recordLength * before) (encode (splitRecord a b 0))) (recordLength * (before + 1)) bytes) (recordLength * before + 6) (twoBytes next)
-    ≡ sets store (recordLength * before) (encode (splitRecord a b next) ++ bytes)
-unfolding twoBytes
-next-after a b next bytes store before =
-    sets-before (twoBytes next) bytes (sets store (recordLength * before) (encode (splitRecord a b 0))) (recordLength * before + 6) (recordLength * (before + 1)) (omega arith)
-    ∙ ap (λ (l : List ℕ). sets l (recordLength * (before + 1)) bytes) (next-set store (recordLength * before) a b next)
-    ∙ after-record (splitRecord a b next) bytes store before
 
 -- The apart branch's records after those.
 apart-after : (r : NodeRecord) (store : List ℕ) (before : ℕ) (t : Tree) (bytes : List ℕ)
@@ -186,7 +168,7 @@ module _ (before : ℕ) (store store₁ store₂ grouping grouping₂ : List ℕ
             ∙ sets-capacity store (encode (splitRecord a b 0)) (recordLength * before)
 
     -- or the split's next is set, and the apart branch's answer is the answer.
-    pub apart-explored : (store₃ store₄ grouping₄ : List ℕ) (r : Visited) → store₃ ≡ sets store₂ (recordLength * before + 6) (twoBytes (n + 1))
+    pub apart-explored : (store₃ store₄ grouping₄ : List ℕ) (r : Visited) → store₃ ≡ setNext store₂ (before + 1) (n + 1)
         → Explored n store₃ store₄ grouping₂ grouping₄ r u → Explored before store store₄ grouping grouping₄ r (twoBranches a b t u)
     unfolding isMet nodeCount metDecisions records encodeAll
     apart-explored store₃ store₄ grouping₄ r next e =
@@ -209,7 +191,7 @@ module _ (before : ℕ) (store store₁ store₂ grouping grouping₂ : List ℕ
         marked =
             let place : n + 1 ≡ before + 1 + 1 + nodeCount t = omega (arith, count) in
             next
-            ∙ ap (λ (l : List ℕ). sets l (recordLength * before + 6) (twoBytes (n + 1))) (turned .stored)
+            ∙ ap (λ (l : List ℕ). setNext l (before + 1) (n + 1)) (turned .stored)
             ∙ next-after a b (n + 1) (encodeAll (records (before + 1 + 1) t)) store before
             ∙ ap (λ (k : ℕ). sets store (recordLength * before) (encode (splitRecord a b k) ++ encodeAll (records (before + 1 + 1) t))) place
 

@@ -5,13 +5,12 @@ use mathlib.Core.List.{List, _∷_}
 use mathlib.Core.Path.{_≡_, sym, _∙_}
 use native.Mathlib.Omega.{arith}
 use lib.Seq.{sets}
-use Rattle.buffers.specs.Bytes.{twoBytes}
 use Rattle.sheet.specs.Conditions.{Term, same, apart}
 use Rattle.equality.specs.Node.{Decisions, Node}
 use Rattle.equality.specs.Search.{Tree, oneBranch, twoBranches, nodeCount}
 use Rattle.equality.specs.Visits.{Visits}
 use Rattle.equality.proofs.Visits.{SplitTree, one, two}
-use Rattle.store.specs.Records.{splitRecord, recordLength, encode, capacity}
+use Rattle.store.specs.Records.{splitRecord, recordLength, setNext, encode, capacity}
 use Rattle.search.specs.declared.Visited.{Visited}
 use Rattle.search.specs.declared.Visited.the-variants.{Met, Cannot, Full}
 use Rattle.search.specs.Visited.{Explored}
@@ -58,7 +57,7 @@ module _ {rule : Decisions → Node} {ds : Decisions} {a b : ℕ} {tree : Tree} 
         go (two {t} {u} w m x) = apart-full before store store₁ store₂ grouping grouping₂ a b t written n (turned t w) u h
 
     -- or it met nothing, and the apart branch is visited.
-    pub split-apart : (store₃ store₄ grouping₄ : List ℕ) (r₄ : Visited) → store₃ ≡ sets store₂ (recordLength * before + 6) (twoBytes (n + 1))
+    pub split-apart : (store₃ store₄ grouping₄ : List ℕ) (r₄ : Visited) → store₃ ≡ setNext store₂ (before + 1) (n + 1)
         → ((u : Tree) → Visits rule (apart a b ∷ ds) u → Explored n store₃ store₄ grouping₂ grouping₄ r₄ u)
         → Explored before store store₄ grouping grouping₄ r₄ tree
     split-apart store₃ store₄ grouping₄ r₄ next told₄ = go v

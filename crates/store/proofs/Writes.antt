@@ -1,27 +1,48 @@
 -- The bytes of a node record that stores leave.
-use Prim.Native.Nat.{ℕ, _+_}
+use Prim.Native.Nat.{ℕ, _+_, _*_, _-_}
 use mathlib.Core.List.{List, _∷_, _++_}
 use mathlib.Core.Path.{_≡_, refl, sym, ap, _∙_}
+use native.Mathlib.Omega.{arith}
 use native.Mathlib.Numerals.{add-one, add-two, add-four, add-six}
-use lib.ListN.{set}
+use lib.ListN.{length, set}
 use lib.Seq.{sets}
 use Rattle.buffers.specs.Bytes.{twoBytes}
-use Rattle.buffers.proofs.Sets.{sets-sets, sets-again}
-use Rattle.store.specs.Records.{splitRecord, fields, encode}
+use Rattle.buffers.proofs.Sets.{sets-sets, sets-before, sets-again}
+use Rattle.store.specs.Records.{NodeRecord, splitRecord, recordLength, nextPlace, nextBytes, setNext, fields, encode}
+use Rattle.store.proofs.Codec.{encode-length}
 
 -- The two bytes and the three numbers of a record, one after the other.
 pub fields-stored : (l : List ℕ) (at kind first second next : ℕ)
-    → sets (sets (sets (set (set l at kind) (at + 1) 0) (at + 2) (twoBytes first)) (at + 4) (twoBytes second)) (at + 6) (twoBytes next)
+    → sets (sets (sets (set (set l at kind) (at + 1) 0) (at + 2) (twoBytes first)) (at + 4) (twoBytes second)) (at + nextPlace) (nextBytes next)
     ≡ sets l at (fields kind first second next)
 unfolding twoBytes
 fields-stored l at kind first second next = rw (add-one at, add-two at, add-four at, add-six at)
 
--- Setting the next of a split that was written without one.
-pub next-set : (l : List ℕ) (at a b next : ℕ)
-    → sets (sets l at (encode (splitRecord a b 0))) (at + 6) (twoBytes next) ≡ sets l at (encode (splitRecord a b next))
+-- Bytes after a record's.
+pub after-record : (r : NodeRecord) (bytes store : List ℕ) (before : ℕ)
+    → sets (sets store (recordLength * before) (encode r)) (recordLength * (before + 1)) bytes ≡ sets store (recordLength * before) (encode r ++ bytes)
+after-record r bytes store before =
+    let place : recordLength * (before + 1) ≡ recordLength * before + length (encode r) = omega (arith, encode-length r) in
+    rw place (sets-sets (encode r) bytes store (recordLength * before))
+
+-- Setting the next of a split that was written without one,
+next-set : (l : List ℕ) (at a b next : ℕ)
+    → sets (sets l at (encode (splitRecord a b 0))) (at + nextPlace) (nextBytes next) ≡ sets l at (encode (splitRecord a b next))
 unfolding encode twoBytes
 next-set l at a b next =
     let front = 1 ∷ 0 ∷ twoBytes a ++ twoBytes b in
-    ap (λ (s : List ℕ). sets s (at + 6) (twoBytes next)) (sym (sets-sets front (twoBytes 0) l at))
-    ∙ sets-again (twoBytes 0) (twoBytes next) (sets l at front) (at + 6) refl
-    ∙ sets-sets front (twoBytes next) l at
+    ap (λ (s : List ℕ). sets s (at + nextPlace) (nextBytes next)) (sym (sets-sets front (nextBytes 0) l at))
+    ∙ sets-again (nextBytes 0) (nextBytes next) (sets l at front) (at + nextPlace) refl
+    ∙ sets-sets front (nextBytes next) l at
+
+-- once bytes were written after it.
+pub next-after : (a b next : ℕ) (bytes store : List ℕ) (before : ℕ)
+    → setNext (sets (sets store (recordLength * before) (encode (splitRecord a b 0))) (recordLength * (before + 1)) bytes) (before + 1) next
+    ≡ sets store (recordLength * before) (encode (splitRecord a b next) ++ bytes)
+unfolding twoBytes
+next-after a b next bytes store before =
+    let record′ = sets store (recordLength * before) (encode (splitRecord a b 0)) in
+    let number : before + 1 - 1 ≡ before = omega arith in
+    rw number (sets-before (nextBytes next) bytes record′ (recordLength * before + nextPlace) (recordLength * (before + 1)) (omega arith))
+    ∙ ap (λ (l : List ℕ). sets l (recordLength * (before + 1)) bytes) (next-set store (recordLength * before) a b next)
+    ∙ after-record (splitRecord a b next) bytes store before

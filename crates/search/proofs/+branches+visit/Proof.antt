@@ -9,7 +9,6 @@ use mathlib.Core.Path.{_≡_, refl, sym, ap, subst, _∙_}
 use native.Mathlib.Omega.{arith}
 use lib.ListN.{length, take, drop}
 use lib.Seq.{sets}
-use Rattle.buffers.specs.Bytes.{twoBytes}
 use Rattle.sheet.specs.Conditions.{same, apart, conditions}
 use Rattle.equality.specs.Node.{Decisions, split, node}
 use Rattle.equality.specs.Search.{nodeRule, Tree, groupingBytes}
@@ -152,7 +151,7 @@ branches-add-visit t c = record { fits = omega (arith, c .before .before .before
 
 branches-write-requires : (t : ℕ) → branches-lts.Need-write-requires (branches-claims t) (branches-at t) branches.Post
 branches-write-requires t c κs = let start = c .before .before .before .before .before .before .before .before in
-    (has-place (start .args .store .now) (start .args .before) (start .pre .1 .1) (start .args .store .now) refl, omega arith)
+    (has-place (start .args .store .now) (start .args .before) (start .pre .1 .1) (start .args .store .now) refl, omega (arith, split-small (start .pre .1 .3 .1 .0) (start .pre .1 .0 .scannable .accepted) _ _ (start .pre .1 .3 .1 .1)))
 
 branches-join-requires : (t : ℕ) → branches-lts.Need-join-requires (branches-claims t) (branches-at t) branches.Post
 branches-join-requires t c κs = let start = c .before .before .before .before .before .before .before .before .before .before .before in
@@ -336,13 +335,12 @@ branches-returns-4 t c = let apart-branch = c .before .before .before .before .b
     let next = c .before .before .before .before .before .before .before .before .before .before .before .before .before .before .before .before .before .before .before .before .before .before .before .before .set-next in
     let under-same = c .before .before .before .before .before .before .before .before .before .before .before .before .before .before .before .before .before .before .before .before .before .before .before .before .before .before .before .before .before .before .under-same2 .given in
     let same-branch = c .before .before .before .before .before .before .before .before .before .before .before .before .before .before .before .before .before .before .before .before .before .before .before .before .before .before .before .before .before .before .before .before .before .before .before .before .before .before .before .before in
-    let start = same-branch .before .before .before .before .before .before .before .before .before .before .before .before .before .before .before .before .before .before .before .before .before .before in
-    let place : start .args .before + 1 - 1 ≡ start .args .before = omega arith in (
+    let start = same-branch .before .before .before .before .before .before .before .before .before .before .before .before .before .before .before .before .before .before .before .before .before .before in (
       (λ ds tree st e res v.
           split-apart (split-tree v e) (start .args .before) (start .args .store .now) _ (same-branch .visit .last .1 .1 .1 .1 .1 .1 .1 .1 .0) (start .args .grouping .now) _
           (branches-written t same-branch) _ (branches-told t same-branch ds st e) (under-same .0 .0) (under-same .1)
           (next .last .0) _ _ _
-          (next .ensures ∙ ap (λ (k : ℕ). sets (same-branch .visit .last .1 .1 .1 .1 .1 .1 .1 .1 .0) (recordLength * k + 6) (twoBytes (under-same .0 .0 + 1))) place)
+          (next .ensures)
           (λ u w. apart-branch .ensures .0 _ u (branches-apart t turned ds st e) res w)),
       (
         untouched-through (start .args .pairs .now) (same-branch .visit .last .1 .1 .1 .1 .1 .1 .0) (turned .set-apart .last .0) (apart-branch .last .1 .1 .1 .1 .1 .1 .0) (start .args .count) (start .args .on .a .0) (start .args .on .b .0)
@@ -422,7 +420,7 @@ visit-add-t37 t c = search needs
 
 visit-write-requires-2 : (t : ℕ) → visit-lts.Need-write-requires-2 (visit-claims t) (visit-at t) visit.Post
 visit-write-requires-2 t c κs = let start = c .before .before .before .before .before .before .before .before .before .before .before .before .before .before .before .before .before .before in
-    (has-place (start .args .store .now) (start .args .before) (visit-room t (c .before .before .before .before .before .before .before .before .before .before)) (start .args .store .now) refl, tt)
+    (has-place (start .args .store .now) (start .args .before) (visit-room t (c .before .before .before .before .before .before .before .before .before .before)) (start .args .store .now) refl, search needs)
 
 visit-add-t37-2 : (t : ℕ) → visit-lts.Need-add-t37-2 (visit-claims t) (visit-at t) visit.Post
 visit-add-t37-2 t c = search needs
