@@ -32,11 +32,11 @@ pub fn examine(sheet: &[u8], wanted: Answer, counts: Counts) -> Counts {
     let borne_out = services::confirmed(sheet, &grouping, &store, answer);
     let verdict = verdict_on(sheet, answer.kind);
     let agreed = (verdict == 0) | (verdict == answer.kind);
-    let told = table::agrees(sheet, 128, answer) & refused_short(sheet);
+    let same_refusals = table::agrees(sheet, 128, answer) & refused_short(sheet);
     let tally = counts.tally;
     let lists = counts.lists;
     let sheets = counts.sheets;
-    let differs = !(borne_out & agreed & told & expected(answer, wanted));
+    let differs = !(borne_out & agreed & same_refusals & expected(answer, wanted));
     let counted = Counts {
         tally: tally.count(answer.kind, answer.first, verdict, differs),
         lists,

@@ -2,7 +2,6 @@
 use borrow.Author.Needs.{needs}
 use lib.Seq.{length-take-le}
 use mathlib.Core.Path.{sym}
-use native.Mathlib.Omega.{arith}
 use Rattle.compare.proofs.groups.examine_digits.Statement.{statement}
 use Rattle.compare.proofs.groups.examine_digits.Tie as tie
 
