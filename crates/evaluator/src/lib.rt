@@ -6,11 +6,12 @@ ghost use Rattle.sheet.specs.Format.{recordCount};
 ghost use Rattle.sheet.specs.Conditions.{termOf, termsFrom, conditions};
 ghost use Rattle.equality.specs.Meaning.{holds, meetsCondition};
 ghost use Rattle.equality.specs.Evaluator.{numberIn, lowestUnmet, evaluateAnswer};
-ghost use Rattle.evaluator.specs.Answers.{evaluationAnswer, unmetOr, Evaluated, Evaluable};
+ghost use Rattle.evaluator.specs.Answers.{evaluationAnswer, unmetOr, evaluateCase, Evaluated, Evaluable};
 use sheet::Condition;
 use sheet::Lot;
 use sheet::Reading;
 use sheet::Record;
+use sheet::SAME;
 use sheet::Term;
 
 // The evaluator's answer.
@@ -35,7 +36,7 @@ fn is_true(grouping: &[u8], t: Term) -> bool
     ensures { λ r. ⌜ r ≡ holds (numberIn (now (grouping .entry))) (termOf (t .sign) (t .a .0) (t .b .0)) ⌝ }
 {
     let same = number_in(grouping, t.a) == number_in(grouping, t.b);
-    if t.sign == 1 { same } else { !same }
+    if t.sign == SAME { same } else { !same }
 }
 
 // Whether the condition whose chain begins at a record is met. The loop leaves at the first true term; every term that it has passed is false.
@@ -59,21 +60,22 @@ fn first_unmet(sheet: &[u8], m: u16, grouping: &[u8]) -> Evaluation
     requires { ⌜ Evaluable (now sheet) (now grouping) m ⌝ }
     ensures { λ r. ⌜ r ≡ unmetOr (lowestUnmet (numberIn (now (grouping .entry))) 1 (conditions (now (sheet .entry)))) ⌝ }
 {
-    let mut c: u16 = 1;
-    while c <= m {
+    let mut c: u16 = 0;
+    while c < m {
+        c += 1;
         let head = sheet::format::head_at(sheet, Condition(c));
         if !is_met(sheet, m, grouping, head) {
             return Evaluation::Unmet(Condition(c));
         }
-        c += 1;
     }
     Evaluation::AllMet
 }
 
 // The evaluator, for any bytes at all: the first check that fails, or whether all conditions are met, or the lowest that isn't.
 pub fn evaluate(sheet: &[u8], grouping: &[u8]) -> Evaluation
+    ensures case { λ r. ⌜ r ≡ evaluateCase (now (sheet .entry)) (now (grouping .entry)) ⌝ }
     ensures answer { λ r. ⌜ evaluationAnswer r ≡ evaluateAnswer (now (sheet .entry)) (now (grouping .entry)) ⌝ }
-    ensures meaning { λ r. ⌜ Evaluated r (now (sheet .entry)) (now (grouping .entry)) ⌝ }
+    ensures meaning { λ r. ⌜ Evaluated (evaluationAnswer r) (now (sheet .entry)) (now (grouping .entry)) ⌝ }
 {
     let reading = sheet::read(sheet);
     match reading {

@@ -2,15 +2,15 @@
 use Prim.Native.Nat.{ℕ, _≤_}
 use mathlib.Core.Bool.{Bool, true, false, _||_, and-eq-true-iff}
 use mathlib.Core.List.{List, []}
-use mathlib.Core.Logic.{_⊎_, inl, inr, ⊎-map}
+use mathlib.Core.Logic.{_⊎_, inl, inr, ⊎-map, _↔_}
 use mathlib.Core.Path.{_≡_, refl, sym, ap, _∙_}
 use native.Mathlib.Omega.{arith}
 use lib.Dec.{leb}
 use lib.ListN.{length}
-use borrow.Author.Tests.{eqb-true, leb-true, ltb-false, not-false}
+use borrow.Author.Tests.{eqb-true, leb-true, le-leb, ltb-false, not-false}
 use Rattle.sheet.specs.declared.Header.{Header}
 use Rattle.sheet.specs.declared.Verdict.the-variants.{Passes}
-use Rattle.sheet.specs.Format.{lowestLot, headerLength, lotCount, conditionCount, recordCount, headAt, signAt, spareAt, firstLotAt, secondLotAt, nextAt}
+use Rattle.sheet.specs.Format.{lowestLot, headerLength, lotCount, conditionCount, recordCount, headAt, sameSign, apartSign, signAt, spareAt, firstLotAt, secondLotAt, nextAt}
 use Rattle.sheet.specs.Checks.{orElse, firstRefusal, check2, check3, check4, check5, check6, check7, lotInRange, wellFormed, Walk, reached, twice, member, walked, chainsVerdict, reachedBy, headerChecks, sheetChecks, sheetVerdict, Accepted}
 use Rattle.sheet.specs.Inner.{headerAt, HasHeader, HasRecord}
 use Rattle.sheet.proofs.Verdicts.{orElse-end, orElse-assoc, orElse-passes, firstRefusal-passes, refusesIf-passes, lowest-passes}
@@ -22,7 +22,7 @@ pub record InLots (lots lot : ℕ) : Type 0 where
 
 -- The fields of record r are in range.
 pub record SoundRecord (s : List ℕ) (r : ℕ) : Type 0 where
-  pub sign : (signAt s r ≡ 1) ⊎ (signAt s r ≡ 2)
+  pub sign : (signAt s r ≡ sameSign) ⊎ (signAt s r ≡ apartSign)
   pub spare : spareAt s r ≡ 0
   pub first : InLots (lotCount s) (firstLotAt s r)
   pub second : InLots (lotCount s) (secondLotAt s r)
@@ -67,10 +67,14 @@ either : (a b : Bool) → (a || b) ≡ true → (a ≡ true) ⊎ (b ≡ true)
 either true b e = inl refl
 either false b e = inr e
 
-in-lots : (s : List ℕ) (lot : ℕ) → lotInRange (lotCount s) lot ≡ true → InLots (lotCount s) lot
-in-lots s lot e =
-    let (low, high) = and-eq-true-iff (leb lowestLot lot) (leb lot (lotCount s)) .0 e in
-    record { low = leb-true _ _ low; high = leb-true _ _ high }
+-- The test on a lot decides.
+pub lot-in : (n lot : ℕ) → (lotInRange n lot ≡ true) ↔ InLots n lot
+lot-in n lot = (
+  (λ e.
+      let (low, high) = and-eq-true-iff (leb lowestLot lot) (leb lot n) .0 e in
+      record { low = leb-true _ _ low; high = leb-true _ _ high }),
+  (λ h. and-eq-true-iff (leb lowestLot lot) (leb lot n) .1 (le-leb _ _ (h .low), le-leb _ _ (h .high))),
+)
 
 well-formed : (s : List ℕ) (r : ℕ) → wellFormed s r ≡ true → SoundRecord s r
 unfolding wellFormed
@@ -82,8 +86,8 @@ well-formed s r e =
     record {
       sign = ⊎-map (eqb-true _ _) (eqb-true _ _) (either _ _ sign);
       spare = eqb-true _ _ spare;
-      first = in-lots s _ first;
-      second = in-lots s _ second;
+      first = lot-in _ _ .0 first;
+      second = lot-in _ _ .0 second;
       next = leb-true _ _ next;
     }
 

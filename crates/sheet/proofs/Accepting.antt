@@ -8,17 +8,15 @@ use native.Mathlib.Omega.{arith}
 use lib.Dec.{eqb}
 use borrow.Author.Tests.{le-ltb, le-leb, eq-eqb}
 use Rattle.sheet.specs.declared.Verdict.the-variants.{Passes}
-use Rattle.sheet.specs.Checks.{check1, check2, check3, check4, check5, check6, check7, firstRefusal, lotInRange, wellFormed, sheetChecks, sheetVerdict, Accepted}
+use Rattle.sheet.specs.Format.{sameSign, apartSign}
+use Rattle.sheet.specs.Checks.{check1, check2, check3, check4, check5, check6, check7, firstRefusal, wellFormed, sheetChecks, sheetVerdict, Accepted}
 use Rattle.sheet.proofs.Verdicts.{passes-orElse, passes-refusesIf, passes-lowest}
-use Rattle.sheet.proofs.Accepted.{InLots, SoundRecord, Sound, header-whole}
+use Rattle.sheet.proofs.Accepted.{lot-in, SoundRecord, Sound, header-whole}
 
 -- ---- from facts to tests
 
--- Of a lot, of a sign, of a record.
-lot-passes : {lots lot : ℕ} → InLots lots lot → lotInRange lots lot ≡ true
-lot-passes h = and-eq-true-iff _ _ .1 (le-leb _ _ (h .low), le-leb _ _ (h .high))
-
-sign-passes : (sign : ℕ) → (sign ≡ 1) ⊎ (sign ≡ 2) → (eqb sign 1 || eqb sign 2) ≡ true
+-- Of a sign, of a record.
+sign-passes : (sign : ℕ) → (sign ≡ sameSign) ⊎ (sign ≡ apartSign) → (eqb sign sameSign || eqb sign apartSign) ≡ true
 sign-passes sign (inl e) = rw e
 sign-passes sign (inr e) = rw e
 
@@ -30,8 +28,8 @@ record-passes h =
       and-eq-true-iff _ _ .1 (
         eq-eqb _ _ (h .spare),
         and-eq-true-iff _ _ .1 (
-          lot-passes (h .first),
-          and-eq-true-iff _ _ .1 (lot-passes (h .second), le-leb _ _ (h .next)),
+          lot-in _ _ .1 (h .first),
+          and-eq-true-iff _ _ .1 (lot-in _ _ .1 (h .second), le-leb _ _ (h .next)),
         ),
       ),
     )

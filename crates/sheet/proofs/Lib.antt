@@ -11,6 +11,7 @@ pub mod Reached
 pub mod ChainEnds
 pub mod Records
 pub mod Conditions
+pub mod Scanning
 pub mod Accepting
 mod Tests
 mod Marks

@@ -7,7 +7,7 @@ use lib.Dec.{leb, ltb, eqb}
 use lib.ListN.{length}
 use Rattle.sheet.specs.declared.Verdict.{Verdict}
 use Rattle.sheet.specs.declared.Verdict.the-variants.{Passes, Refuses}
-use Rattle.sheet.specs.Format.{mostLots, mostConditions, mostRecords, lowestLot, headerLength, lotCount, conditionCount, recordCount, sheetLength, headAt, signAt, spareAt, firstLotAt, secondLotAt, nextAt}
+use Rattle.sheet.specs.Format.{mostLots, mostConditions, mostRecords, lowestLot, headerLength, lotCount, conditionCount, recordCount, sheetLength, headAt, sameSign, apartSign, signAt, spareAt, firstLotAt, secondLotAt, nextAt}
 
 -- ---- the first check that fails
 
@@ -62,7 +62,7 @@ lotInRange n lot = leb lowestLot lot && leb lot n
 -- Sign, spare, both lots and next of record r are in range.
 unfoldable pub wellFormed : List ℕ → ℕ → Bool
 wellFormed s r =
-    (eqb (signAt s r) 1 || eqb (signAt s r) 2)
+    (eqb (signAt s r) sameSign || eqb (signAt s r) apartSign)
     && (eqb (spareAt s r) 0
     && (lotInRange (lotCount s) (firstLotAt s r)
     && (lotInRange (lotCount s) (secondLotAt s r)

@@ -3,7 +3,7 @@ use Prim.Native.Nat.{ℕ, zero, suc}
 use mathlib.Core.Bool.{cond}
 use mathlib.Core.List.{List, [], _∷_, map}
 use lib.Dec.{eqb}
-use Rattle.sheet.specs.Format.{conditionCount, recordCount, headAt, signAt, firstLotAt, secondLotAt, nextAt}
+use Rattle.sheet.specs.Format.{conditionCount, recordCount, headAt, sameSign, signAt, firstLotAt, secondLotAt, nextAt}
 
 -- A term (a literal): "same a b" or "apart a b". "a may equal b."
 pub data Term : Type 0 where
@@ -12,7 +12,7 @@ pub data Term : Type 0 where
 
 -- "sign (one byte, 1 "same", 2 "apart")"; check 5 admits no other sign.
 abbrev pub termOf : ℕ → ℕ → ℕ → Term
-termOf sign a b = cond (eqb sign 1) (same a b) (apart a b)
+termOf sign a b = cond (eqb sign sameSign) (same a b) (apart a b)
 
 -- The term of record r.
 abbrev pub termAt : List ℕ → ℕ → Term

@@ -43,6 +43,13 @@ headAt s c = number s (headerLength + 2 * (c - 1))
 abbrev pub recordPlace : ℕ → ℕ → ℕ
 recordPlace m r = headerLength + 2 * m + 8 * (r - 1)
 
+-- "sign (one byte, 1 "same", 2 "apart")"
+abbrev pub sameSign : ℕ
+sameSign = 1
+
+abbrev pub apartSign : ℕ
+apartSign = 2
+
 -- "sign (one byte, 1 "same", 2 "apart"), spare (one byte, 0), lot a, lot b, next (two bytes each)": the fields of record r.
 unfoldable pub signAt : List ℕ → ℕ → ℕ
 signAt s r = getD s (recordPlace (conditionCount s) r) 0

@@ -1,4 +1,4 @@
--- For the contracts of the reader's inner functions; this file states nothing of document 01.
+-- For the contracts of inner functions, the reader's and those of services that read an accepted sheet; this file states nothing of document 01.
 use Prim.Native.Nat.{ℕ, suc, _+_, _-_, _≤_}
 use mathlib.Core.Bool.{Bool, not}
 use mathlib.Core.List.{List}
@@ -10,7 +10,7 @@ use Rattle.sheet.specs.declared.Term.{Term}
 use Rattle.sheet.specs.declared.Verdict.{Verdict}
 use Rattle.sheet.specs.declared.Verdict.the-variants.{Passes, Refuses}
 use Rattle.sheet.specs.Format.{mostLots, mostConditions, mostRecords, lotCount, conditionCount, recordCount, sheetLength, headAt, recordPlace, signAt, firstLotAt, secondLotAt, nextAt}
-use Rattle.sheet.specs.Checks.{Walk, reached, twice, member, walkChain, lowestRefusal}
+use Rattle.sheet.specs.Checks.{Walk, reached, twice, member, walkChain, lowestRefusal, Accepted}
 
 -- ---- the format, as the code's types have it
 
@@ -41,6 +41,11 @@ pub record HasHeader (s : List ℕ) (h : Header) : Type 0 where
   pub conditions : conditionCount s ≤ mostConditions
   pub records : recordCount s ≤ mostRecords
   pub whole : length s ≡ sheetLength (conditionCount s) (recordCount s)
+
+-- The sheet is accepted, and has m conditions.
+pub record HasConditions (s : List ℕ) (m : ℕ) : Type 0 where
+  pub accepted : Accepted s
+  pub counted : m ≡ conditionCount s
 
 -- ---- marks of the records that a walk has reached: mark i is that of record i + 1, and 1 stands for "reached"
 

@@ -4,15 +4,17 @@ ghost use mathlib.Core.Bool.{_||_};
 ghost use Prim.Native.Nat.{_≤_};
 ghost use lib.Dec.{eqb};
 ghost use lib.ListN.{length};
-ghost use Rattle.sheet.specs.Format.{mostRecords};
-ghost use Rattle.sheet.specs.Checks.{firstRefusal, headerChecks, check4, lotInRange, check5, wellFormed};
+ghost use Rattle.sheet.specs.Format.{mostRecords, sameSign, apartSign};
+ghost use Rattle.sheet.specs.Checks.{firstRefusal, headerChecks, check4, check5, wellFormed};
 ghost use Rattle.sheet.specs.Inner.{HasHeader, HasRecord, headerAt, unmarkedVerdict};
+use crate::APART;
 use crate::Condition;
 use crate::Header;
-use crate::Lot;
 use crate::Record;
+use crate::SAME;
 use crate::Verdict;
 use crate::format;
+use crate::in_lots;
 
 // Checks 1 to 3: the header and the length.
 pub(crate) fn header(sheet: &[u8]) -> Verdict
@@ -82,10 +84,10 @@ fn well_formed(sheet: &[u8], h: Header, r: Record) -> bool
     if format::spare_at(sheet, h.conditions, r) != 0 {
         return false;
     }
-    if !lot_in_range(h, t.a) {
+    if !in_lots(h.lots, t.a) {
         return false;
     }
-    if !lot_in_range(h, t.b) {
+    if !in_lots(h.lots, t.b) {
         return false;
     }
     t.next.0 <= h.records
@@ -93,16 +95,9 @@ fn well_formed(sheet: &[u8], h: Header, r: Record) -> bool
 
 // A sign is "same" or "apart".
 fn sign_known(sign: u8) -> bool
-    ensures { λ b. ⌜ b ≡ (eqb sign 1 || eqb sign 2) ⌝ }
+    ensures { λ b. ⌜ b ≡ (eqb sign sameSign || eqb sign apartSign) ⌝ }
 {
-    sign == 1 || sign == 2
-}
-
-// A lot that a term may name.
-fn lot_in_range(h: Header, lot: Lot) -> bool
-    ensures { λ b. ⌜ b ≡ lotInRange (h .lots) (lot .0) ⌝ }
-{
-    1 <= lot.0 && lot.0 <= h.lots
+    sign == SAME || sign == APART
 }
 
 // Check 7: each record is marked as reached. Mark i is that of record i + 1.

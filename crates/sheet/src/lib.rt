@@ -5,7 +5,7 @@ mod checks; // checks.rt: checks 1 to 5 and 7
 mod once; // once.rt: check 6, and with it check 7
 
 ghost use mathlib.Core.Path.{_≡_};
-ghost use Rattle.sheet.specs.Checks.{sheetVerdict};
+ghost use Rattle.sheet.specs.Checks.{lotInRange, sheetVerdict};
 ghost use Rattle.sheet.specs.Answers.{readAnswer, readingAnswer};
 
 // Lot numbers, condition numbers and record numbers each count from 1 on their own; none is ever used for another.
@@ -15,7 +15,12 @@ pub struct Condition(pub u16);
 
 pub struct Record(pub u16);
 
-// A term record, without its spare byte: sign 1 is "same", 2 is "apart".
+// The signs of a term.
+pub const SAME: u8 = 1;
+
+pub const APART: u8 = 2;
+
+// A term record, without its spare byte.
 pub struct Term {
     pub sign: u8,
     pub a: Lot,
@@ -47,6 +52,13 @@ pub enum Reading {
         check: u32,
         place: u32,
     },
+}
+
+// Whether a lot is one of n, and so one that a term or a split may name.
+pub fn in_lots(n: u16, lot: Lot) -> bool
+    ensures { λ r. ⌜ r ≡ lotInRange n (lot .0) ⌝ }
+{
+    1 <= lot.0 && lot.0 <= n
 }
 
 // The sheet reader: the header's counts, or the first check that fails, for any bytes at all.

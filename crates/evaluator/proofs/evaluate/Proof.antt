@@ -1,12 +1,14 @@
 -- `evaluator::evaluate`: the reader's refusal, the grouping's, or the lowest unmet condition.
 use borrow.Author.Needs.{needs}
+use Prim.Native.Nat.{ℕ}
 use mathlib.Core.Path.{sym, ap, _∙_}
 use native.Mathlib.Omega.{arith}
-use Rattle.sheet.specs.Answers.{readingAnswer, refused}
+use Rattle.sheet.specs.declared.Verdict.the-variants.{Passes, Refuses}
+use Rattle.sheet.specs.Answers.{readingAnswer}
 use Rattle.sheet.proofs.Readings.{ReadAs, read-accepts, read-refuses}
 use Rattle.equality.proofs.Checked.{sheet-refused, grouping-short, all-pass}
-use Rattle.evaluator.specs.Answers.{evaluationAnswer}
-use Rattle.evaluator.proofs.Entry.{refused-by, evaluated, evaluated-means}
+use Rattle.evaluator.specs.declared.Evaluation.the-variants.{Refused}
+use Rattle.evaluator.proofs.Entry.{case-by, ensured}
 use Rattle.evaluator.proofs.evaluate.Statement.{statement}
 use Rattle.evaluator.proofs.evaluate.Tie as tie
 
@@ -26,43 +28,43 @@ cast-t12 : tie.Need-cast-t12
 cast-t12 c = search needs
 
 -- Where the reader accepts, the sheet is accepted, with its counts.
-accepted : (c : tie.After-reading2)
-    → ReadAs (c .before .before .before .before .before .args .sheet .now) (c .reading2 .given .0 .0) (c .reading2 .given .0 .1 .0) (c .reading2 .given .0 .1 .1 .0)
+abbrev begun : tie.After-reading2 → tie.Start
+begun c = c .before .before .before .before .before
+
+accepted : (c : tie.After-reading2) → ReadAs (begun c .args .sheet .now) (c .reading2 .given .0 .0) (c .reading2 .given .0 .1 .0) (c .reading2 .given .0 .1 .1 .0)
 accepted c = read-accepts _ _ _ _ (ap readingAnswer (sym (c .reading2 .given .1)) ∙ c .before .before .read .ensures)
 
 returns : tie.Need-returns
 returns c =
-    let a = accepted (c .before .before) in
-    let start = c .before .before .before .before .before .before .before in (
-      ap (refused 8) (a .lots)
-          ∙ refused-by (start .args .sheet .now) (start .args .grouping .now) _ _
-          (grouping-short (start .args .sheet .now) (start .args .grouping .now) (a .accepted) (omega (arith, a .lots, c .if1 .taken))),
-      tt,
-    )
+    let reading = c .before .before in
+    let a = accepted reading in
+    let s = begun reading .args .sheet .now in
+    let grouping = begun reading .args .grouping .now in
+    ensured s grouping
+    (ap (λ (n : ℕ). Refused 8 n) (a .lots) ∙ case-by s grouping (Refuses 8 _) (grouping-short s grouping (a .accepted) (omega (arith, a .lots, c .if1 .taken))))
 
 first-unmet-requires : tie.Need-first-unmet-requires
 first-unmet-requires c κs =
     let a = accepted (c .before .before) in
-    record { accepted = a .accepted; counted = a .conditions; room = omega (arith, a .lots, c .if1 .left) }
+    record { sheet = record { accepted = a .accepted; counted = a .conditions }; room = omega (arith, a .lots, c .if1 .left) }
 
 returns-2 : tie.Need-returns-2
 returns-2 c =
-    let start = c .before .before .before .before .before .before in (
-      refused-by (start .args .sheet .now) (start .args .grouping .now) _ _
-          (sheet-refused (start .args .sheet .now) (start .args .grouping .now) _ _
-          (read-refuses (start .args .sheet .now) _ _ (ap readingAnswer (sym (c .before .reading .given .1)) ∙ c .before .before .before .read .ensures))),
-      tt,
-    )
+    let start = c .before .before .before .before .before .before in
+    let s = start .args .sheet .now in
+    let grouping = start .args .grouping .now in
+    ensured s grouping
+    (case-by s grouping (Refuses _ _)
+    (sheet-refused s grouping _ _ (read-refuses s _ _ (ap readingAnswer (sym (c .before .reading .given .1)) ∙ c .before .before .before .read .ensures))))
 
 returns-3 : tie.Need-returns-3
 returns-3 c =
-    let a = accepted (c .before .before .before) in
-    let start = c .before .before .before .before .before .before .before .before in
-    let s = start .args .sheet .now in
-    let grouping = start .args .grouping .now in (
-      ap evaluationAnswer (c .first-unmet .ensures) ∙ evaluated s grouping (all-pass s grouping (a .accepted) (omega (arith, a .lots, c .before .if1 .left))),
-      rw (c .first-unmet .ensures) (evaluated-means s grouping),
-    )
+    let reading = c .before .before .before in
+    let a = accepted reading in
+    let s = begun reading .args .sheet .now in
+    let grouping = begun reading .args .grouping .now in
+    ensured s grouping
+    (c .first-unmet .ensures ∙ case-by s grouping Passes (all-pass s grouping (a .accepted) (omega (arith, a .lots, c .before .if1 .left))))
 
 pub evaluate-spec : {M : Type 1} → statement M
 evaluate-spec =

@@ -37,7 +37,7 @@ term-at-requires : tie.Need-term-at-requires Inv-loop μ-loop
 term-at-requires c κs =
     let l = c .before .before in
     let start = begun l in
-    let can = start .pre .0 in
+    let can = start .pre .0 .sheet in
     rw (can .counted) (has-record (sound (start .args .sheet .now) (can .accepted) .header) (l .loop .at .0) (record-number c) (l .loop .inv .within))
 
 is-true-requires : tie.Need-is-true-requires Inv-loop μ-loop
@@ -73,7 +73,7 @@ returns c =
     let l = tested a in
     let start = begun l in
     lifted start
-    (found (holds (numberIn (start .args .grouping .now))) (start .args .sheet .now) (start .pre .0 .accepted) (start .args .head .0) (l .loop .at .0) (l .loop .inv)
+    (found (holds (numberIn (start .args .grouping .now))) (start .args .sheet .now) (start .pre .0 .sheet .accepted) (start .args .head .0) (l .loop .at .0) (l .loop .inv)
     (record-number (turn a)) (sym (answer a) ∙ c .if2 .taken))
 
 loop-less : tie.Need-loop-less Inv-loop μ-loop
@@ -82,7 +82,7 @@ loop-less c =
     let l = tested a in
     let start = begun l in
     rw (a .before .term-at .ensures)
-    (rest-shorter (start .args .sheet .now) (start .pre .0 .accepted) (l .loop .at .0) (record-number (turn a)) (l .loop .inv .within))
+    (rest-shorter (start .args .sheet .now) (start .pre .0 .sheet .accepted) (l .loop .at .0) (record-number (turn a)) (l .loop .inv .within))
 
 loop-again : tie.Need-loop-again Inv-loop μ-loop
 loop-again c =
@@ -90,7 +90,7 @@ loop-again c =
     let l = tested a in
     let start = begun l in
     rw (a .before .term-at .ensures)
-    (passing-next (holds (numberIn (start .args .grouping .now))) (start .args .sheet .now) (start .pre .0 .accepted) (start .args .head .0) (l .loop .at .0) (l .loop .inv)
+    (passing-next (holds (numberIn (start .args .grouping .now))) (start .args .sheet .now) (start .pre .0 .sheet .accepted) (start .args .head .0) (l .loop .at .0) (l .loop .inv)
     (record-number (turn a)) (sym (answer a) ∙ c .before .if2 .left))
 
 returns-2 : tie.Need-returns-2 Inv-loop μ-loop
@@ -98,7 +98,7 @@ returns-2 c =
     let l = c .before .before in
     let start = begun l in
     lifted start
-    (ended (holds (numberIn (start .args .grouping .now))) (start .args .sheet .now) (start .pre .0 .accepted) (start .args .head .0) (l .loop .at .0) (l .loop .inv) (c .if1 .left))
+    (ended (holds (numberIn (start .args .grouping .now))) (start .args .sheet .now) (start .pre .0 .sheet .accepted) (start .args .head .0) (l .loop .at .0) (l .loop .inv) (c .if1 .left))
 
 pub is-met-spec : {M : Type 1} → statement M
 is-met-spec =

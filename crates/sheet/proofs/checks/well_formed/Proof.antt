@@ -35,21 +35,21 @@ returns-2 c =
     let other = ne-eqb _ _ (λ z. c .if2 .taken (c .before .spare-at .ensures ∙ z)) in
     sym (by-tests (c .before .before .before .before) ∙ simp (other, and-false))
 
-lot-in-range-requires : tie.Need-lot-in-range-requires
-lot-in-range-requires c κs = search needs
+in-lots-requires : tie.Need-in-lots-requires
+in-lots-requires c κs = search needs
 
 returns-3 : tie.Need-returns-3
 returns-3 c =
     let t = c .before .before .before .before .before .before in
-    sym (by-tests t ∙ simp (sym (c .before .lot-in-range .ensures) ∙ not-true _ (c .if3 .taken), and-false))
+    sym (by-tests t ∙ simp (sym (c .before .in-lots .ensures) ∙ not-true _ (c .if3 .taken), and-false))
 
-lot-in-range-requires-2 : tie.Need-lot-in-range-requires-2
-lot-in-range-requires-2 c κs = search needs
+in-lots-requires-2 : tie.Need-in-lots-requires-2
+in-lots-requires-2 c κs = search needs
 
 returns-4 : tie.Need-returns-4
 returns-4 c =
     let t = c .before .before .before .before .before .before .before .before in
-    sym (by-tests t ∙ simp (sym (c .before .lot-in-range2 .ensures) ∙ not-true _ (c .if4 .taken), and-false))
+    sym (by-tests t ∙ simp (sym (c .before .in-lots2 .ensures) ∙ not-true _ (c .if4 .taken), and-false))
 
 returns-5 : tie.Need-returns-5
 returns-5 c =
@@ -61,8 +61,8 @@ returns-5 c =
     ∙ simp (
       sym (first .before .sign-known .ensures) ∙ not-false _ (first .if1 .left),
       eq-eqb _ _ (sym (second .before .spare-at .ensures) ∙ second .if2 .left),
-      sym (third .before .lot-in-range .ensures) ∙ not-false _ (third .if3 .left),
-      sym (fourth .before .lot-in-range2 .ensures) ∙ not-false _ (fourth .if4 .left),
+      sym (third .before .in-lots .ensures) ∙ not-false _ (third .if3 .left),
+      sym (fourth .before .in-lots2 .ensures) ∙ not-false _ (fourth .if4 .left),
     ))
 
 pub well-formed-spec : {M : Type 1} → statement M
@@ -74,8 +74,8 @@ well-formed-spec =
     returns
     spare-at-requires
     returns-2
-    lot-in-range-requires
+    in-lots-requires
     returns-3
-    lot-in-range-requires-2
+    in-lots-requires-2
     returns-4
     returns-5)
