@@ -3,6 +3,7 @@ use Prim.Native.Nat.{ℕ, suc, _+_, _-_, _/_, _%_, _≤_}
 use mathlib.Core.Bool.{true, false, not, _&&_, false≢true}
 use mathlib.Core.List.{List, [], _∷_, _++_, append-nil, append-assoc}
 use mathlib.Core.Path.{_≡_, refl, sym, ap, _∙_}
+use native.Mathlib.Nat.{le-trans}
 use native.Mathlib.Numerals.{add-one}
 use native.Mathlib.Omega.{arith}
 use borrow.Author.Tests.{le-leb, lt-leb, le-ltb, eq-eqb, ne-eqb}
@@ -10,7 +11,7 @@ use lib.Dec.{eqb}
 use lib.ListN.{length, length-append}
 use lib.Seq.{getD-append-seam}
 use Rattle.sheet.specs.declared.Verdict.the-variants.{Passes}
-use Rattle.sheet.specs.Format.{lotCount, conditionCount}
+use Rattle.sheet.specs.Format.{mostRecords, lotCount, conditionCount}
 use Rattle.sheet.specs.Checks.{Accepted, orElse, refusesIf, firstRefusal, lotInRange}
 use Rattle.sheet.proofs.Verdicts.{passes-firstRefusal}
 use Rattle.sheet.proofs.Further.{further-accepted}
@@ -99,6 +100,10 @@ module _ (s : List ℕ) (ok : Accepted s) where
 
   -- ---- the search
 
+  -- The checker admits every path of a search: none has more splits than a sheet has records, and the checker's limit is no lower.
+  splits-admitted : mostRecords ≤ mostSplits
+  splits-admitted = omega arith
+
   -- Where the search has no met node and at most 65,535 nodes, its bytes pass.
   module _ (m : isMet (searchTree (conditions s)) ≡ false) (few : nodeCount (searchTree (conditions s)) ≤ mostNodes) where
     tree : Tree
@@ -123,7 +128,7 @@ module _ (s : List ℕ) (ok : Accepted s) where
     walk-passes =
         let visits = search-visits (conditions s) in
         let decoded = records-of (records 1 (searchTree (conditions s))) (search-fits s ok few) in
-        let deep : depth (searchTree (conditions s)) ≤ mostSplits = sheet-depth s ok in
+        let deep : depth (searchTree (conditions s)) ≤ mostSplits = le-trans (sheet-depth s ok) splits-admitted in
         ap (λ (list : List NodeRecord). walkFrom s list 1 []) (decoded ∙ sym (append-nil (records 1 (searchTree (conditions s)))))
         ∙ own-walk visits m tt [] refl (omega arith) 1 []
 

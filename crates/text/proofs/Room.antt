@@ -36,15 +36,15 @@ unfolding line
 line-length field [] = length-append field (10 ∷ []) ∙ omega arith
 line-length field (next ∷ fields) = length-append field (32 ∷ line next fields) ∙ omega (arith, line-length next fields)
 
--- Two-byte numbers have five digits at most.
-two-bytes : (x : ℕ) → x < 65536 → length (decimal x) ≤ 5
-two-bytes x h = decimal-most 4 x (omega arith)
+-- Lots, conditions and records have five digits at most.
+five-digits : (x : ℕ) → x < 100000 → length (decimal x) ≤ 5
+five-digits x h = decimal-most 4 x (omega arith)
 
 pub recordLine-most : (r : NodeRecord) → Fits r → length (recordLine r) ≤ 24
 unfolding recordLine
 recordLine-most (splitRecord a b next) h =
-    omega (arith, line-length splitWord (decimal a ∷ decimal b ∷ decimal next ∷ []), two-bytes a (h .0), two-bytes b (h .1), two-bytes next (h .2))
-recordLine-most (groundRecord c) h = omega (arith, line-length groundWord (decimal c ∷ []), two-bytes c h)
+    omega (arith, line-length splitWord (decimal a ∷ decimal b ∷ decimal next ∷ []), five-digits a (omega (arith, h .0)), five-digits b (omega (arith, h .1)), five-digits next (omega (arith, h .2)))
+recordLine-most (groundRecord c) h = omega (arith, line-length groundWord (decimal c ∷ []), five-digits c (omega (arith, h)))
 recordLine-most metRecord h = omega arith
 recordLine-most noRecord h = absurd h
 
@@ -76,9 +76,9 @@ module _ (s : List ℕ) (ok : Accepted s) where
       omega (
         arith,
         line-length lotsWord (decimal (lotCount s) ∷ conditionsWord ∷ decimal (conditionCount s) ∷ termsWord ∷ decimal (recordCount s) ∷ []),
-        two-bytes (lotCount s) (omega (arith, header .lots)),
-        two-bytes (conditionCount s) (omega (arith, header .conditions)),
-        two-bytes (recordCount s) (omega (arith, header .records)),
+        five-digits (lotCount s) (omega (arith, header .lots)),
+        five-digits (conditionCount s) (omega (arith, header .conditions)),
+        five-digits (recordCount s) (omega (arith, header .records)),
       )
 
   -- A lot's byte is no more than the lot.
@@ -129,7 +129,7 @@ module _ (s : List ℕ) (ok : Accepted s) where
           header-most,
           lines-most,
           line-length cannotWord (decimal (nodeCount tree) ∷ []),
-          two-bytes (nodeCount tree) (omega arith),
+          five-digits (nodeCount tree) (omega arith),
         )
 
 -- ---- a printed text
