@@ -2,14 +2,14 @@
 -- (theorem 3).
 use Prim.Native.Nat.{ℕ}
 use mathlib.Core.Bool.{Bool, true, false, false≢true}
-use mathlib.Core.List.{List, [], _∷_, _++_}
+use mathlib.Core.List.{List, [], _∷_}
 use mathlib.Core.Logic.{_≢_, _↔_}
 use mathlib.Core.Path.{_≡_, refl, sym, _∙_}
 use native.Mathlib.Decide.{ℕ-discrete}
 use Rattle.sheet.specs.Conditions.{Term}
 use Rattle.buffers.specs.Lists.{All}
-use Rattle.equality.specs.Meaning.{Holds, MeetsCondition, MeetsAll, meetsAll}
-use Rattle.equality.specs.Node.{Decisions, Respects, smallestLot, isFalse, value, trueOrOpenApart, passedOver, met, node}
+use Rattle.equality.specs.Meaning.{Holds, someTerm, MeetsCondition, MeetsAll, meetsAll}
+use Rattle.equality.specs.Node.{Decisions, Respects, smallestLot, isFalse, value, trueOrOpenApart, passedOver}
 use Rattle.equality.specs.Search.{Tree, isMet, metDecisions, nodeRule, searchTree}
 use Rattle.equality.proofs.Meaning.{all-decides}
 use Rattle.equality.proofs.Some.{none-some}
@@ -35,16 +35,16 @@ met-meets tss {t = t} v m = passed-meets (metDecisions t) tss (met-passed (metDe
 
 -- ---- cannot
 
-module _ {A : Type 0} (decide : (x y : A) → Dec (x ≡ y)) (f : ℕ → A) (tss : List (List Term)) (smalls : All (All Small) tss) where
-  -- At a ground every term of the condition is false of an assignment that respects the decisions, so it does not meet the condition.
-  pub ground-unmet : (ds : Decisions) → All Small ds → Respects f ds → (ts : List Term) → All Small ts
-      → passedOver ds ts ≡ false → All (λ t. value ds t ≡ isFalse) ts → ¬ MeetsCondition f ts
-  ground-unmet ds small respects ts smallTerms unmet allFalse =
-      none-some (λ t. trueOrOpenApart t (value ds t)) (Holds f) ts unmet (all-two false-says ts smallTerms allFalse)
+module _ {A : Type 0} (f : ℕ → A) (ds : Decisions) (small : All Small ds) (respects : Respects f ds) where
+  -- A condition each of whose terms is false, and which some test does not pass, is not met by an assignment that respects the decisions.
+  pub false-unmet : (p : Term → Bool) (ts : List Term) → someTerm p ts ≡ false → All Small ts → All (λ t. value ds t ≡ isFalse) ts
+      → ¬ MeetsCondition f ts
+  false-unmet p ts none smallTerms falses = none-some p (Holds f) ts none (all-two false-says ts smallTerms falses)
     where
       false-says : (t : Term) → Small t → value ds t ≡ isFalse → ¬ Holds f t
-      false-says t small′ false′ = let says : Says f ds small respects isFalse t = rw false′ at (value-says f ds small respects t small′) in says
+      false-says t small′ e = let says : Says f ds small respects isFalse t = rw e at (value-says f ds small respects t small′) in says
 
+module _ {A : Type 0} (decide : (x y : A) → Dec (x ≡ y)) (f : ℕ → A) (tss : List (List Term)) (smalls : All (All Small) tss) where
   -- Theorem 3, under any decisions.
   pub cannot-under : {ds : Decisions} {t : Tree} → Visits (nodeRule tss) ds t → isMet t ≡ false → All Small ds → Respects f ds → ¬ MeetsAll f tss
   unfolding isMet Respects
@@ -54,9 +54,8 @@ module _ {A : Type 0} (decide : (x y : A) → Dec (x ≡ y)) (f : ℕ → A) (ts
       grounded : GroundAt ds tss c → ⊥
       grounded at =
           let placed = at .taken .place in
-          ground-unmet ds small respects (at .terms)
+          false-unmet f ds small respects (λ t. trueOrOpenApart t (value ds t)) (at .terms) (at .taken .unmet)
           (all-at (All Small) (at .taken .front) (at .terms) (at .taken .back) (rw placed at smalls))
-          (at .taken .unmet)
           (ground-false at)
           (all-at (MeetsCondition f) (at .taken .front) (at .terms) (at .taken .back) (rw placed at meets′))
   cannot-under (visits-one e v q) m small respects meets′ = false≢true (sym m ∙ q)

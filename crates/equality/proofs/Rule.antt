@@ -8,6 +8,7 @@ use native.Mathlib.Omega.{arith}
 use lib.ListN.{length}
 use Rattle.sheet.specs.Conditions.{Term, same, apart}
 use Rattle.buffers.specs.Lists.{All}
+use Rattle.buffers.proofs.Lists.{all-two}
 use Rattle.equality.specs.Node.{Decisions, markedApart, Value, isTrue, isFalse, isOpen, value, Taken, noCondition, takes, passedOver, taken, met, ground, split, splitOn, openOr, groundOrSplit, nodeOf, node}
 use Rattle.equality.proofs.Node.{openSame, taken-values}
 
@@ -199,7 +200,7 @@ module _ (ds : Decisions) (tss : List (List Term)) where
 
 -- Every term of a ground's condition is false.
 pub ground-false : {ds : Decisions} {tss : List (List Term)} {c : ℕ} (at : GroundAt ds tss c) → All (λ t. value ds t ≡ isFalse) (at .terms)
-ground-false {ds} at = falses (at .terms) (taken-values ds (at .terms) (at .taken .unmet)) (at .closed)
+ground-false {ds} at = all-two false-one (at .terms) (taken-values ds (at .terms) (at .taken .unmet)) (at .closed)
   where
     false-one : (t : Term) → value ds t ≡ openSame ds t → value ds t ≢ isOpen → value ds t ≡ isFalse
     false-one (same a b) e n = go (markedApart ds a b) e
@@ -208,7 +209,3 @@ ground-false {ds} at = falses (at .terms) (taken-values ds (at .terms) (at .take
         go true e = e
         go false e = absurd (n e)
     false-one (apart a b) e n = e
-
-    falses : (ts : List Term) → All (λ t. value ds t ≡ openSame ds t) ts → All (λ t. value ds t ≢ isOpen) ts → All (λ t. value ds t ≡ isFalse) ts
-    falses [] e n = tt
-    falses (t ∷ ts) e n = (false-one t (e .0) (n .0), falses ts (e .1) (n .1))

@@ -2,7 +2,7 @@
 use mathlib.Core.Bool.{Bool, true, false, _||_, or-true, false≢true}
 use mathlib.Core.List.{List, [], _∷_, _++_}
 use mathlib.Core.Logic.{⊎-elim}
-use mathlib.Core.Path.{_≡_, refl, sym, ap, ap₂, fun-ext, _∙_}
+use mathlib.Core.Path.{_≡_, refl, sym, ap, ap₂, fun-ext}
 use lib.Dec.{T}
 use Rattle.sheet.specs.Conditions.{Term}
 use Rattle.buffers.specs.Lists.{All}

@@ -1,12 +1,12 @@
 -- What passes is a refutation (theorem 6): whatever the list, and from whichever hand, no assignment meets the sheet.
-use Prim.Native.Nat.{ℕ, zero, suc, _-_, _<_}
+use Prim.Native.Nat.{ℕ, suc, _-_, _<_}
 use mathlib.Core.Bool.{true, false, not, _&&_, false≢true, and-eq-true-iff}
 use mathlib.Core.List.{List, [], _∷_}
 use mathlib.Core.Path.{_≡_, refl, sym}
 use native.Mathlib.Omega.{arith}
 use borrow.Author.Tests.{leb-true, not-false}
 use lib.Dec.{eqb, leb}
-use lib.ListN.{length, getD}
+use lib.ListN.{length}
 use Rattle.sheet.specs.declared.Verdict.{Verdict}
 use Rattle.sheet.specs.declared.Verdict.the-variants.{Passes, Refuses}
 use Rattle.sheet.specs.Format.{lotCount, conditionCount}
@@ -15,15 +15,15 @@ use Rattle.sheet.specs.Conditions.{Term, same, apart, conditions}
 use Rattle.sheet.proofs.Verdicts.{orElse-passes, refusesIf-passes, firstRefusal-passes}
 use Rattle.sheet.proofs.Further.{further-passes}
 use Rattle.buffers.specs.Lists.{All}
-use Rattle.buffers.proofs.Lists.{all-nth}
+use Rattle.buffers.proofs.Lists.{all-map, all-nth}
 use Rattle.sheet.proofs.Accepted.{sound}
 use Rattle.sheet.proofs.Conditions.{conditions-length}
-use Rattle.equality.specs.Meaning.{Holds, MeetsCondition, MeetsAll, Meets}
+use Rattle.equality.specs.Meaning.{MeetsCondition, Meets}
 use Rattle.equality.specs.Node.{Decisions, Respects, Value, isTrue, isFalse, isOpen, value}
-use Rattle.equality.proofs.Some.{some-none, none-some}
+use Rattle.equality.proofs.Some.{some-none}
 use Rattle.equality.specs.Opens.{Small}
 use Rattle.equality.proofs.Small.{conditions-small}
-use Rattle.equality.proofs.Classes.{Says, value-says}
+use Rattle.equality.proofs.Right.{false-unmet}
 use Rattle.store.specs.Records.{NodeRecord, splitRecord, groundRecord, metRecord, noRecord, recordsOf}
 use Rattle.refutation.specs.Refutation.{mostSplits, Split, decisionsOf, notFalse, groundFails, nearestOf, nearest, turned, afterGround, named, conditionInRange, walkRecord, walkFrom, check10, walkVerdict, listVerdict, Refutes}
 
@@ -51,8 +51,9 @@ module _ {A : Type 0} (decide : (x y : A) → Dec (x ≡ y)) (f : ℕ → A) (s 
   ground-excludes : (ds : Decisions) → All Small ds → (c : ℕ) → conditionInRange s c ≡ true → groundFails ds (named s c) ≡ false → ¬ Respects f ds
   unfolding groundFails
   ground-excludes ds small c inRange passes respects =
-      none-some (λ t. notFalse (value ds t)) (Holds f) (named s c) passes
-      (falses (named s c) (all-nth (All Small) (conditions s) [] (conditions-small s ok) (c - 1) place) (some-none (λ t. notFalse (value ds t)) (named s c) passes))
+      false-unmet f ds small respects (λ t. notFalse (value ds t)) (named s c) passes
+      (all-nth (All Small) (conditions s) [] (conditions-small s ok) (c - 1) place)
+      (all-map (λ t. is-false (value ds t)) (named s c) (some-none (λ t. notFalse (value ds t)) (named s c) passes))
       (all-nth (MeetsCondition f) (conditions s) [] meets (c - 1) place)
     where
       place : c - 1 < length (conditions s)
@@ -60,14 +61,10 @@ module _ {A : Type 0} (decide : (x y : A) → Dec (x ≡ y)) (f : ℕ → A) (s 
           let both = and-eq-true-iff (leb 1 c) (leb c (conditionCount s)) .0 inRange in
           omega (arith, leb-true 1 c (both .0), leb-true c (conditionCount s) (both .1), conditions-length s)
 
-      one : (t : Term) → Small t → (v : Value) → value ds t ≡ v → notFalse v ≡ false → ¬ Holds f t
-      one t small′ isTrue e n = absurd (false≢true (sym n))
-      one t small′ isFalse e n = let says : Says f ds small respects isFalse t = rw e at (value-says f ds small respects t small′) in says
-      one t small′ isOpen e n = absurd (false≢true (sym n))
-
-      falses : (ts : List Term) → All Small ts → All (λ t. notFalse (value ds t) ≡ false) ts → All (λ t. ¬ Holds f t) ts
-      falses [] small′ all = tt
-      falses (t ∷ ts) small′ all = (one t (small′ .0) (value ds t) refl (all .0), falses ts (small′ .1) (all .1))
+      is-false : (v : Value) → notFalse v ≡ false → v ≡ isFalse
+      is-false isTrue n = absurd (false≢true (sym n))
+      is-false isFalse n = refl
+      is-false isOpen n = absurd (false≢true (sym n))
 
   -- ---- after a ground
 

@@ -3,11 +3,9 @@ use Prim.Native.Nat.{ℕ, _+_, _*_, _≤_}
 use mathlib.Core.List.{List, _++_, map}
 use mathlib.Core.Path.{_≡_}
 use lib.ListN.{length, take}
-use lib.Seq.{sets}
 use Rattle.sheet.specs.Format.{mostLots, headerLength, lotCount}
 use Rattle.sheet.specs.Conditions.{countUp}
 use Rattle.store.specs.Records.{NodeRecord, recordAt, recordLength, capacity}
-use Rattle.buffers.specs.Written.{written}
 use Rattle.text.specs.Program.{mostInput, programCapacity, headerLine, recordLines, metLine, cannotLine}
 
 -- The first `count` records of a store.

@@ -1,7 +1,6 @@
 -- `store::set_next` meets its contract: the next stands at its place in the record.
 use Prim.Native.Nat.{ℕ, _+_}
 use mathlib.Core.Path.{ap, _∙_}
-use native.Mathlib.Omega.{arith}
 use borrow.Author.Needs.{needs}
 use lib.Seq.{sets}
 use Rattle.store.specs.Records.{nextPlace, nextBytes}

@@ -1,5 +1,4 @@
 -- `store::write` meets its contract: each arm writes the fields that the definition gives that record.
-use native.Mathlib.Omega.{arith}
 use borrow.Author.Needs.{needs}
 use Rattle.store.specs.Records.{encode}
 use Rattle.store.proofs.write.Statement.{statement}

@@ -7,7 +7,7 @@ use lib.ListN.{drop}
 use Rattle.sheet.specs.Format.{lotCount, conditionCount, recordCount}
 use Rattle.sheet.specs.declared.Header.{Header}
 use Rattle.sheet.specs.Inner.{headerAt}
-use Rattle.text.specs.Lines.{decimal, line, lotsWord, conditionsWord, termsWord}
+use Rattle.text.specs.Lines.{decimal, lotsWord, conditionsWord, termsWord}
 use Rattle.text.specs.Program.{headerLine}
 use Rattle.text.proofs.Fields.{after, start-line}
 use Rattle.buffers.proofs.Writing.{Writing, room-left, room, then, last}

@@ -7,7 +7,7 @@ use native.Mathlib.Numerals.{add-one}
 use native.Mathlib.Omega.{arith}
 use lib.ListN.{take, getD}
 use lib.Seq.{slice, slice-cons, slice-empty}
-use Rattle.text.specs.Lines.{decimal, line, metWord}
+use Rattle.text.specs.Lines.{decimal, metWord}
 use Rattle.text.specs.Program.{metLine}
 use Rattle.text.proofs.Fields.{after, start-line}
 use Rattle.buffers.proofs.Writing.{Writing, start, room-left, room, then, last}

@@ -1,7 +1,6 @@
 -- `lines::record_line` meets its contract: each arm writes the line that the definition gives that record, which for the last two is none.
-use Rattle.text.specs.Lines.{line}
 use Rattle.text.specs.Program.{recordLine}
-use Rattle.buffers.proofs.Writing.{nothing, last}
+use Rattle.buffers.proofs.Writing.{nothing}
 use borrow.Author.Needs.{needs}
 use Rattle.text.proofs.lines.record_line.Statement.{statement}
 use Rattle.text.proofs.lines.record_line.Tie as tie

@@ -8,7 +8,7 @@ use native.Mathlib.Omega.{arith}
 use Rattle.store.specs.Records.{recordAt}
 use Rattle.text.specs.Program.{recordLine, recordLines}
 use Rattle.text.specs.Code.{firstRecords}
-use Rattle.text.proofs.Fields.{after, recordsLeft, lines-step, lines-end}
+use Rattle.text.proofs.Fields.{recordsLeft, lines-step, lines-end}
 use Rattle.buffers.proofs.Writing.{Writing, start, room, then, whole}
 use borrow.Author.Needs.{needs}
 use Rattle.text.proofs.lines.record_lines.Statement.{statement}

@@ -4,7 +4,7 @@ use mathlib.Core.List.{List, [], _∷_}
 use mathlib.Core.Path.{_∙_}
 use native.Mathlib.Omega.{arith}
 use lib.ListN.{drop}
-use Rattle.text.specs.Lines.{decimal, line, refusedWord}
+use Rattle.text.specs.Lines.{decimal, refusedWord}
 use Rattle.text.specs.Program.{refusedLine}
 use Rattle.text.proofs.Fields.{after, start-line}
 use Rattle.buffers.proofs.Writing.{Writing, room-left, room, then, last}

@@ -5,7 +5,7 @@ use mathlib.Core.Path.{_∙_}
 use native.Mathlib.Omega.{arith}
 use lib.ListN.{drop}
 use Rattle.store.specs.Records.{splitRecord}
-use Rattle.text.specs.Lines.{decimal, line, splitWord}
+use Rattle.text.specs.Lines.{decimal, splitWord}
 use Rattle.text.specs.Program.{recordLine}
 use Rattle.text.proofs.Fields.{after, start-line}
 use Rattle.buffers.proofs.Writing.{Writing, room-left, room, then, last}

@@ -4,7 +4,6 @@ use mathlib.Core.List.{List, _++_}
 use mathlib.Core.Path.{_∙_}
 use native.Mathlib.Omega.{arith}
 use lib.ListN.{length}
-use Rattle.text.specs.Lines.{line}
 use Rattle.text.specs.Program.{headerLine, recordLines, cannotLine}
 use Rattle.text.specs.Code.{firstRecords, cannotText}
 use Rattle.buffers.proofs.Writing.{Writing, start-three, room-left, room, then, last, wrote-first}

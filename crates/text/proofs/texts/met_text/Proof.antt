@@ -6,7 +6,6 @@ use native.Mathlib.Omega.{arith}
 use lib.ListN.{length, take}
 use Rattle.sheet.specs.Format.{lotCount}
 use Rattle.sheet.specs.declared.Header.{Header}
-use Rattle.text.specs.Lines.{line}
 use Rattle.text.specs.Program.{headerLine, recordLines, metLine}
 use Rattle.text.specs.Code.{firstRecords, metText}
 use Rattle.buffers.proofs.Writing.{Writing, start-three, room-left, room, then, last, wrote-first}

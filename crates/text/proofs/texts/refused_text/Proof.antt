@@ -1,6 +1,6 @@
 -- `texts::refused_text` meets its contract: a refusal of any two numbers has room.
 use native.Mathlib.Omega.{arith}
-use Rattle.buffers.proofs.Writing.{room, wrote-first}
+use Rattle.buffers.proofs.Writing.{wrote-first}
 use Rattle.text.proofs.Room.{refused-most}
 use borrow.Author.Needs.{needs}
 use Rattle.text.proofs.texts.refused_text.Statement.{statement}
