@@ -1,14 +1,17 @@
 -- The checks that a call with a grouping can fail before anything is tried: 1 to 7 on the sheet, then 8.
 use Prim.Native.Nat.{ℕ, _≤_, _<_}
 use mathlib.Core.List.{List, [], _∷_}
-use mathlib.Core.Path.{_≡_, ap, _∙_}
+use mathlib.Core.Path.{_≡_, refl, sym, ap, subst, _∙_}
+use native.Mathlib.Omega.{arith}
 use borrow.Author.Tests.{lt-ltb, le-ltb}
+use lib.Dec.{ltb}
 use lib.ListN.{length}
 use Rattle.sheet.specs.declared.Verdict.{Verdict}
 use Rattle.sheet.specs.declared.Verdict.the-variants.{Passes, Refuses}
 use Rattle.sheet.specs.Format.{lotCount}
-use Rattle.sheet.specs.Checks.{Accepted, orElse, firstRefusal, sheetVerdict}
+use Rattle.sheet.specs.Checks.{Accepted, orElse, firstRefusal, refusesIf, sheetVerdict}
 use Rattle.sheet.proofs.Further.{further}
+use Rattle.sheet.proofs.Numbered.{Numbered, either, test, sheet-numbered}
 use Rattle.equality.specs.Evaluator.{check8, groupingVerdict}
 
 module _ (s grouping : List ℕ) where
@@ -29,3 +32,11 @@ module _ (s grouping : List ℕ) where
   pub all-pass : Accepted s → lotCount s ≤ length grouping → groupingVerdict s grouping ≡ Passes
   unfolding firstRefusal check8
   all-pass ok h = by-sheet Passes ok ∙ rw (le-ltb (length grouping) (lotCount s) h)
+
+  -- A refusal's number is at least 1 and not 9.
+  pub grouping-numbered : Numbered (groupingVerdict s grouping)
+  unfolding firstRefusal check8
+  grouping-numbered =
+      subst Numbered (sym (by-sheet (sheetVerdict s) refl))
+      (either (sheetVerdict s) _ (sheet-numbered s)
+      (either (refusesIf (ltb (length grouping) (lotCount s)) 8 (lotCount s)) Passes (test (ltb (length grouping) (lotCount s)) 8 (lotCount s) (omega arith, λ e. omega arith)) tt))

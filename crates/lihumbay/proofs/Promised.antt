@@ -43,48 +43,41 @@ zero-exactly s (reading.Refused check place) answer =
     never : (check place : ℕ) → Passes ≡ Refuses check place → ⊥
     never check place e = let z : _≡_ {A = ℕ} 0 1 = cc in absurd (omega arith)
 
+-- ---- the search
+
+-- A refusal's number is not 0.
+abbrev First : Answer → Type 0
+First a = (check place : ℕ) → a ≡ refused check place → 1 ≤ check
+
+module _ (s : List ℕ) where
+  pub nine : (grouping store : List ℕ) (a : Answer) → FullExactly a s grouping store → FullPlace a store → NineExactly (numbersOf a) s grouping store
+  nine grouping store (refused check place) full at =
+      ((λ e. full .0 (rw (at place (λ i. refused (e i) place)) (λ i. refused (e i) (at place (λ j. refused (e j) place) i)))), (λ h. let q = full .1 h in cc))
+  nine grouping store (answered first second third) full at = ((λ e. absurd (omega (arith, e))), (λ h. let q = full .1 h in let z : _≡_ {A = ℕ} 0 1 = cc in absurd (omega arith)))
+
+  pub one : (a : Answer) → First a → MetExactly a s → OneExactly (numbersOf a) s
+  one (refused check place) number met = λ z. absurd (omega (arith, z, number check place refl))
+  one (answered first second third) number met = λ z. met
+
+  pub one-meets : (grouping′ : List ℕ) (a : Answer) → First a → MetGrouping a s grouping′ → OneMeets (numbersOf a) s grouping′
+  one-meets grouping′ (refused check place) number meets = λ z. absurd (omega (arith, z, number check place refl))
+  one-meets grouping′ (answered first second third) number meets = λ z. meets
+
+  pub two : (a : Answer) → First a → CannotExactly a s → TwoExactly (numbersOf a) s
+  two (refused check place) number cannot = λ z. absurd (omega (arith, z, number check place refl))
+  two (answered first second third) number cannot = λ z. cannot
+
+  pub two-refutes : (store′ : List ℕ) (a : Answer) → First a → CannotRefutes a s store′ → TwoRefutes (numbersOf a) s store′
+  two-refutes store′ (refused check place) number refutes = λ z. absurd (omega (arith, z, number check place refl))
+  two-refutes store′ (answered first second third) number refutes = λ z e. answer-passing s (take (recordLength * second) store′) (refutes e)
+
+  pub bounded : (a : Answer) → First a → CountBounded a s → NodesBounded (numbersOf a) s
+  bounded (refused check place) number bound = ((λ z. absurd (omega (arith, z, number check place refl))), bound)
+  bounded (answered first second third) number bound = ((λ z. bound), (λ e. absurd (omega (arith, e))))
+
+-- ---- the evaluator
+
 module _ (s grouping : List ℕ) where
-  -- A case that refuses before the search has a number from 1 to 8.
-  number : (check place : ℕ) → RefusedExactly (Refused check place) s grouping → (1 ≤ check) × (check ≤ 8)
-  number check place says = refusal-early s grouping check place (says check place .0 refl)
-
-  pub nine : (store : List ℕ) (a : SearchAnswer) → RefusedExactly a s grouping → FullExactly a s grouping store → NineExactly (numbersOf (searchAnswer a)) s grouping store
-  nine store (Met count) early full = ((λ e. absurd (omega (arith, e))), (λ h. absurd (full .1 h)))
-  nine store (Cannot count) early full = ((λ e. absurd (omega (arith, e))), (λ h. absurd (full .1 h)))
-  nine store (Full capacity) early full = ((λ e. full .0 tt), (λ h. refl))
-  nine store (Refused check place) early full = ((λ e. absurd (omega (arith, e, number check place early .1))), (λ h. absurd (full .1 h)))
-
-  pub one : (a : SearchAnswer) → RefusedExactly a s grouping → MetExactly a s → OneExactly (numbersOf (searchAnswer a)) s
-  one (Met count) early met = λ z. ((λ e. met tt .0 tt), (λ h. refl))
-  one (Cannot count) early met = λ z. ((λ e. absurd (omega (arith, e))), (λ h. absurd (met tt .1 h)))
-  one (Full capacity) early met = λ z. absurd (omega (arith, z))
-  one (Refused check place) early met = λ z. absurd (omega (arith, z, number check place early .0))
-
-  pub one-meets : (grouping′ : List ℕ) (a : SearchAnswer) → RefusedExactly a s grouping → MetGrouping a s grouping′ → OneMeets (numbersOf (searchAnswer a)) s grouping′
-  one-meets grouping′ (Met count) early meets = λ z e. meets tt
-  one-meets grouping′ (Cannot count) early meets = λ z e. absurd (omega (arith, e))
-  one-meets grouping′ (Full capacity) early meets = λ z e. absurd (omega (arith, z))
-  one-meets grouping′ (Refused check place) early meets = λ z e. absurd (omega (arith, z, number check place early .0))
-
-  pub two : (a : SearchAnswer) → RefusedExactly a s grouping → CannotExactly a s → TwoExactly (numbersOf (searchAnswer a)) s
-  two (Met count) early cannot = λ z. ((λ e. absurd (omega (arith, e))), (λ h. absurd (cannot tt .1 h)))
-  two (Cannot count) early cannot = λ z. ((λ e. cannot tt .0 tt), (λ h. refl))
-  two (Full capacity) early cannot = λ z. absurd (omega (arith, z))
-  two (Refused check place) early cannot = λ z. absurd (omega (arith, z, number check place early .0))
-
-  pub two-refutes : (store′ : List ℕ) (a : SearchAnswer) → RefusedExactly a s grouping → CannotRefutes a s store′ → TwoRefutes (numbersOf (searchAnswer a)) s store′
-  two-refutes store′ (Met count) early refutes = λ z e. absurd (omega (arith, e))
-  two-refutes store′ (Cannot count) early passed = λ z e. answer-passing s (take (recordLength * count) store′) passed
-  two-refutes store′ (Full capacity) early refutes = λ z e. absurd (omega (arith, z))
-  two-refutes store′ (Refused check place) early refutes = λ z e. absurd (omega (arith, z, number check place early .0))
-
-  pub bounded : (a : SearchAnswer) → RefusedExactly a s grouping → CountBounded a s → NodesBounded (numbersOf (searchAnswer a)) s
-  bounded (Met count) early bound = ((λ z. bound), (λ e. absurd (omega (arith, e))))
-  bounded (Cannot count) early bound = ((λ z. bound), (λ e. absurd (omega (arith, e))))
-  bounded (Full capacity) early bound = ((λ z. absurd (omega (arith, z))), (λ e. bound))
-  bounded (Refused check place) early bound =
-      ((λ z. absurd (omega (arith, z, number check place early .0))), (λ e. absurd (omega (arith, e, number check place early .1))))
-
   -- An evaluation that refuses gives the first check that fails.
   evaluation-refuses : (check place : ℕ) → refused check place ≡ evaluateAnswer s grouping → groupingVerdict s grouping ≡ Refuses check place
   unfolding evaluateAnswer

@@ -10,6 +10,7 @@ use Rattle.sheet.specs.declared.Verdict.{Verdict}
 use Rattle.sheet.specs.declared.Verdict.the-variants.{Passes, Refuses}
 use Rattle.sheet.specs.Format.{lotCount}
 use Rattle.sheet.specs.Conditions.{conditions}
+use Rattle.sheet.specs.Checks.{orElse, refusesIf}
 use Rattle.sheet.specs.Answers.{Answer, refused, answered}
 use Rattle.equality.specs.Search.{Tree, searchTree, isMet, nodeCount, metDecisions, groupingBytes}
 use Rattle.equality.specs.Evaluator.{groupingVerdict}
@@ -38,6 +39,16 @@ fullOr false capacity result = result
 unfoldable pub resultOf : Verdict → ℕ → Tree → Result
 resultOf (Refuses check place) capacity tree = refusedResult check place
 resultOf Passes capacity tree = fullOr (ltb capacity (nodeCount tree)) capacity (metOrCannot (isMet tree) tree)
+
+-- ---- the checks of a search
+
+-- "during the search | 9 | store full | S"
+unfoldable pub check9 : List ℕ → List ℕ → Verdict
+check9 s store = refusesIf (ltb (capacity store) (nodeCount (searchTree (conditions s)))) 9 (capacity store)
+
+-- The first of checks 1 to 9 that refuses.
+unfoldable pub searchVerdict : List ℕ → List ℕ → List ℕ → Verdict
+searchVerdict s grouping store = orElse (groupingVerdict s grouping) (check9 s store)
 
 -- ---- the answer
 

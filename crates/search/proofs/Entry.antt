@@ -34,43 +34,43 @@ module _ (s grouping store : List ℕ) where
       × ((searchAnswer r ≡ searchOutcome s grouping store .answer)
       × ((grouping′ ≡ searchOutcome s grouping store .grouping)
       × ((store′ ≡ searchOutcome s grouping store .store)
-      × (RefusedExactly r s grouping
-      × (FullExactly r s grouping store
-      × (FullPlace r store
-      × (MetExactly r s
-      × (MetGrouping r s grouping′
-      × (CannotExactly r s
-      × (CannotRefutes r s store′
-      × (CountBounded r s)))))))))))
+      × (RefusedExactly (searchAnswer r) s grouping store
+      × (FullExactly (searchAnswer r) s grouping store
+      × (FullPlace (searchAnswer r) store
+      × (MetExactly (searchAnswer r) s
+      × (MetGrouping (searchAnswer r) s grouping′
+      × (CannotExactly (searchAnswer r) s
+      × (CannotRefutes (searchAnswer r) s store′
+      × (CountBounded (searchAnswer r) s)))))))))))
 
   pub ensured : {v : Verdict} → groupingVerdict s grouping ≡ v → (grouping′ store′ : List ℕ) (r : SearchAnswer) → EndsBy v grouping′ store′ r → Ensured grouping′ store′ r
   unfolding searchCase searchOutcome
   ensured {v} verdict grouping′ store′ r ends = by (subst (λ (w : Verdict). EndsBy w grouping′ store′ r) (sym verdict) ends)
     where
       by : EndsBy (groupingVerdict s grouping) grouping′ store′ r → Ensured grouping′ store′ r
-      by e = (
+      by e = let told = answer-of s grouping store r (e .answered) in (
         e .answered,
         (
-          answer-of s grouping store r (e .answered),
+          told,
           (
             e .grouped,
             (
               e .stored,
               (
-                refused-exactly s grouping store r (e .answered),
+                refused-exactly s grouping store (searchAnswer r) told,
                 (
-                  full-exactly s grouping store r (e .answered),
+                  full-exactly s grouping store (searchAnswer r) told,
                   (
-                    full-place s grouping store r (e .answered),
+                    full-place s grouping store (searchAnswer r) told,
                     (
-                      met-exactly s grouping store r (e .answered),
+                      met-exactly s grouping store (searchAnswer r) told,
                       (
-                        met-grouping s grouping store r (e .answered) grouping′ (e .grouped),
+                        met-grouping s grouping store (searchAnswer r) told grouping′ (e .grouped),
                         (
-                          cannot-exactly s grouping store r (e .answered),
+                          cannot-exactly s grouping store (searchAnswer r) told,
                           (
-                            cannot-refutes s grouping store r (e .answered) store′ (e .stored),
-                            (count-bounded s grouping store r (e .answered)),
+                            cannot-refutes s grouping store (searchAnswer r) told store′ (e .stored),
+                            (count-bounded s grouping store (searchAnswer r) told),
                           ),
                         ),
                       ),

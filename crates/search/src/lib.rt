@@ -258,14 +258,14 @@ pub fn search(sheet: &[u8], grouping: &mut [u8], store: &mut [u8]) -> SearchAnsw
     ensures answer { λ r. ⌜ searchAnswer r ≡ searchOutcome (now (sheet .entry)) (now (grouping .entry)) (now (store .entry)) .answer ⌝ }
     ensures grouping { λ r. ⌜ now (grouping .exit) ≡ searchOutcome (now (sheet .entry)) (now (grouping .entry)) (now (store .entry)) .grouping ⌝ }
     ensures store { λ r. ⌜ now (store .exit) ≡ searchOutcome (now (sheet .entry)) (now (grouping .entry)) (now (store .entry)) .store ⌝ }
-    ensures refused { λ r. ⌜ RefusedExactly r (now (sheet .entry)) (now (grouping .entry)) ⌝ }
-    ensures full { λ r. ⌜ FullExactly r (now (sheet .entry)) (now (grouping .entry)) (now (store .entry)) ⌝ }
-    ensures capacity { λ r. ⌜ FullPlace r (now (store .entry)) ⌝ }
-    ensures met { λ r. ⌜ MetExactly r (now (sheet .entry)) ⌝ }
-    ensures meets { λ r. ⌜ MetGrouping r (now (sheet .entry)) (now (grouping .exit)) ⌝ }
-    ensures cannot { λ r. ⌜ CannotExactly r (now (sheet .entry)) ⌝ }
-    ensures refutes { λ r. ⌜ CannotRefutes r (now (sheet .entry)) (now (store .exit)) ⌝ }
-    ensures count { λ r. ⌜ CountBounded r (now (sheet .entry)) ⌝ }
+    ensures refused { λ r. ⌜ RefusedExactly (searchAnswer r) (now (sheet .entry)) (now (grouping .entry)) (now (store .entry)) ⌝ }
+    ensures full { λ r. ⌜ FullExactly (searchAnswer r) (now (sheet .entry)) (now (grouping .entry)) (now (store .entry)) ⌝ }
+    ensures capacity { λ r. ⌜ FullPlace (searchAnswer r) (now (store .entry)) ⌝ }
+    ensures met { λ r. ⌜ MetExactly (searchAnswer r) (now (sheet .entry)) ⌝ }
+    ensures meets { λ r. ⌜ MetGrouping (searchAnswer r) (now (sheet .entry)) (now (grouping .exit)) ⌝ }
+    ensures cannot { λ r. ⌜ CannotExactly (searchAnswer r) (now (sheet .entry)) ⌝ }
+    ensures refutes { λ r. ⌜ CannotRefutes (searchAnswer r) (now (sheet .entry)) (now (store .exit)) ⌝ }
+    ensures count { λ r. ⌜ CountBounded (searchAnswer r) (now (sheet .entry)) ⌝ }
 {
     let reading = sheet::read(sheet);
     match reading {

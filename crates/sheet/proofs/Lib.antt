@@ -1,5 +1,6 @@
 pub mod Verdicts
 pub mod Further
+pub mod Numbered
 pub mod Readings
 pub mod Loops
 pub mod Times
