@@ -9,13 +9,11 @@ use Rattle.sheet.specs.declared.Verdict.the-variants.{Passes, Refuses}
 use Rattle.sheet.specs.Conditions.{conditions}
 use Rattle.sheet.specs.declared.Reading.{Reading}
 use Rattle.sheet.specs.declared.Reading.the-variants as reading
-use Rattle.sheet.specs.Answers.{refused, answered, answerOf, readAnswer, readingAnswer}
+use Rattle.sheet.specs.Answers.{Answer, refused, answered, answerOf, readAnswer, readingAnswer}
 use Rattle.sheet.proofs.Readings.{read-accepts, read-refuses}
 use Rattle.equality.specs.Evaluator.{groupingVerdict, numberIn, lowestUnmet, evaluateAnswer}
 use Rattle.equality.proofs.Checked.{sheet-refused}
-use Rattle.evaluator.specs.declared.Evaluation.{Evaluation}
-use Rattle.evaluator.specs.declared.Evaluation.the-variants as evaluation
-use Rattle.evaluator.specs.Answers.{evaluationAnswer, unmetOr, Evaluated}
+use Rattle.evaluator.specs.Answers.{Evaluated}
 use Rattle.store.specs.Records.{recordLength}
 use Rattle.search.specs.declared.SearchAnswer.{SearchAnswer}
 use Rattle.search.specs.declared.SearchAnswer.the-variants.{Met, Cannot, Full, Refused}
@@ -95,14 +93,9 @@ module _ (s grouping : List ℕ) where
       go Passes q e = let z : _≡_ {A = ℕ} 0 1 = cc in absurd (omega arith)
       go (Refuses c p) q e = let same : c ≡ check = cc in let at : p ≡ place = cc in q ∙ (λ i. Refuses (same i) (at i))
 
-  named : (c : ℕ) → Evaluated (evaluation.Unmet (record { 0 = c })) s grouping → Evaluated (unmetOr c) s grouping
-  named zero means = absurd (omega (arith, means .0))
-  named (suc c) means = means
-
-  pub first-unmet : (e : Evaluation) → evaluationAnswer e ≡ evaluateAnswer s grouping → Evaluated e s grouping → FirstUnmet (numbersOf (evaluationAnswer e)) s grouping
-  first-unmet evaluation.AllMet answer means = λ z. means
-  first-unmet (evaluation.Unmet c) answer means = λ z. named (c .0) means
-  first-unmet (evaluation.Refused check place) answer means = λ z. absurd (omega (arith, z, refusal-early s grouping check place (evaluation-refuses check place answer) .0))
+  pub first-unmet : (a : Answer) → a ≡ evaluateAnswer s grouping → Evaluated a s grouping → FirstUnmet (numbersOf a) s grouping
+  first-unmet (answered first second third) answer means = λ z. means
+  first-unmet (refused check place) answer means = λ z. absurd (omega (arith, z, refusal-early s grouping check place (evaluation-refuses check place answer) .0))
 
 -- A refusal that the checker answers is the first check that fails.
 check-refuses : (s list : List ℕ) (check place : ℕ) → refused check place ≡ checkAnswer s list → listVerdict s list ≡ Refuses check place
@@ -113,12 +106,16 @@ check-refuses s list check place e = go (listVerdict s list) refl e
     go Passes q e = let z : _≡_ {A = ℕ} 0 1 = cc in absurd (omega arith)
     go (Refuses c p) q e = let same : c ≡ check = cc in let at : p ≡ place = cc in q ∙ (λ i. Refuses (same i) (at i))
 
+-- A refusal is no answer.
+no-answer : (check place : ℕ) → refused check place ≡ answered 0 0 0 → ⊥
+no-answer check place e = let z : _≡_ {A = ℕ} 0 1 = cc in omega arith
+
 module _ (s list : List ℕ) where
   pub zero-passed : (a : CheckAnswer) → checkedAnswer a ≡ checkAnswer s list → PassedExactly a s list → ZeroPassed (numbersOf (checkedAnswer a)) s list
-  zero-passed check.Passed answer exactly = ((λ z. exactly .0 tt), (λ passes. refl))
+  zero-passed check.Passed answer exactly = ((λ z. exactly .0 refl), (λ passes. refl))
   zero-passed (check.Refused number place) answer exactly =
-      ((λ z. absurd (omega (arith, z, refusal-numbered s list number place (check-refuses s list number place answer)))), (λ passes. absurd (exactly .1 passes)))
+      ((λ z. absurd (omega (arith, z, refusal-numbered s list number place (check-refuses s list number place answer)))), (λ passes. absurd (no-answer number place (exactly .1 passes))))
 
   pub zero-means : (a : CheckAnswer) → checkedAnswer a ≡ checkAnswer s list → PassedMeans a s → ZeroMeans (numbersOf (checkedAnswer a)) s
-  zero-means check.Passed answer means = λ z. means tt
+  zero-means check.Passed answer means = λ z. means refl
   zero-means (check.Refused number place) answer means = λ z. absurd (omega (arith, z, refusal-numbered s list number place (check-refuses s list number place answer)))
