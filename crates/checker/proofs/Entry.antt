@@ -11,7 +11,7 @@ use lib.ListN.{length}
 use Rattle.sheet.specs.declared.Verdict.{Verdict}
 use Rattle.sheet.specs.declared.Verdict.the-variants.{Passes, Refuses}
 use Rattle.sheet.specs.Checks.{Accepted, orElse, refusesIf, firstRefusal, sheetVerdict}
-use Rattle.sheet.specs.Answers.{answered, answerOf}
+use Rattle.sheet.specs.Answers.{refused, answered, answerOf}
 use Rattle.sheet.proofs.Further.{further, further-accepted}
 use Rattle.store.specs.Records.{recordLength, mostNodes}
 use Rattle.refutation.specs.Refutation.{check10, walkVerdict, listVerdict, checkAnswer}
@@ -36,11 +36,14 @@ module _ (s list : List ℕ) where
 
   pub ensured : (v : Verdict) → listVerdict s list ≡ v → Ensured (caseOf v)
   unfolding checkAnswer
-  ensured Passes e = (sym (ap (λ (w : Verdict). answerOf w (answered 0 0 0)) e), (((λ _. e), (λ _. tt)), (λ _ f. refutation-sound s list e ℕ-discrete f)))
+  ensured Passes e = (sym (ap (λ (w : Verdict). answerOf w (answered 0 0 0)) e), (((λ _. e), (λ _. refl)), (λ _ f. refutation-sound s list e ℕ-discrete f)))
   ensured (Refuses check place) e = (
     sym (ap (λ (w : Verdict). answerOf w (answered 0 0 0)) e),
-    (((λ none. absurd none), (λ passes. let z : _≡_ {A = ℕ} 0 1 = cc in absurd (omega arith))), (λ none. absurd none)),
+    (((λ passed. absurd (never passed)), (λ passes. let z : _≡_ {A = ℕ} 0 1 = cc in absurd (omega arith))), (λ passed. absurd (never passed))),
   )
+    where
+      never : refused check place ≡ answered 0 0 0 → ⊥
+      never q = let z : _≡_ {A = ℕ} 0 1 = cc in omega arith
 
   -- A sheet that is refused,
   pub sheet-refused : (check place : ℕ) → sheetVerdict s ≡ Refuses check place → listVerdict s list ≡ Refuses check place

@@ -4,15 +4,14 @@ use mathlib.Core.Bool.{true, false, and-false, false≢true}
 use mathlib.Core.List.{List, [], _∷_}
 use mathlib.Core.Path.{_≡_, refl, sym, ap, _∙_}
 use native.Mathlib.Numerals.{add-one}
-use borrow.Author.Tests.{eq-eqb, ne-eqb, le-leb, lt-leb, leb-true}
+use borrow.Author.Tests.{eq-eqb, ne-eqb, le-leb, lt-leb}
 use lib.Dec.{leb}
 use lib.ListN.{length}
-use Rattle.sheet.specs.Format.{lotCount, conditionCount, lowestLot}
+use Rattle.sheet.specs.Format.{lotCount, conditionCount}
 use Rattle.sheet.specs.Checks.{lotInRange}
 use Rattle.sheet.specs.Conditions.{same}
 use Rattle.sheet.specs.declared.Verdict.{Verdict}
 use Rattle.sheet.specs.declared.Verdict.the-variants.{Passes, Refuses}
-use Rattle.equality.proofs.Tests.{and-true-both}
 use Rattle.store.specs.Records.{NodeRecord, splitRecord, groundRecord}
 use Rattle.refutation.specs.Refutation.{Split, mostSplits, decisionsOf, groundFails, sameSplit, nearest, turned, mustEnd, afterGround, named, conditionInRange, walkRecord}
 use Rattle.path.specs.Paths.{splitIn, firstLotIn, secondLotIn, pathOf, nearestAs}
@@ -63,10 +62,6 @@ module _ (walkRest : ℕ → List Split → Verdict) (rest : List NodeRecord) (f
         ap (afterGround walkRest rest following) nearest-is ∙ go-on ∙ ap (walkRest following) (sym turn)
 
 -- ---- a split
-
--- A lot in range is at most the last.
-pub at-most : (n lot : ℕ) → lotInRange n lot ≡ true → lot ≤ n
-at-most n lot e = leb-true lot n (and-true-both (leb lowestLot lot) (leb lot n) e .1)
 
 module _ (s : List ℕ) (walkRest : ℕ → List Split → Verdict) (rest : List NodeRecord) (r : ℕ) (above : List Split) (a b next : ℕ) where
   abbrev pub AtSplit : Verdict → Type 0

@@ -2,6 +2,7 @@
 use Prim.Native.Nat.{ℕ}
 use mathlib.Core.List.{List}
 use mathlib.Core.Logic.{_↔_}
+use mathlib.Core.Path.{_≡_}
 use Rattle.sheet.specs.Answers.{Answer, refused, answered}
 use Rattle.equality.specs.Meaning.{Meets}
 use Rattle.refutation.specs.Refutation.{Refutes}
@@ -13,14 +14,10 @@ abbrev pub checkedAnswer : CheckAnswer → Answer
 checkedAnswer Passed = answered 0 0 0
 checkedAnswer (Refused check place) = refused check place
 
-abbrev pub IsPassed : CheckAnswer → Type 0
-IsPassed Passed = Unit {0}
-IsPassed (Refused check place) = ⊥
-
 -- "A list passes when its walk ends there and no check has refused it."
 abbrev pub PassedExactly : CheckAnswer → List ℕ → List ℕ → Type 0
-PassedExactly r s list = IsPassed r ↔ Refutes s list
+PassedExactly r s list = checkedAnswer r ≡ answered 0 0 0 ↔ Refutes s list
 
 -- What passes proves that nobody can meet the sheet, whatever the list and from whichever hand.
 abbrev pub PassedMeans : CheckAnswer → List ℕ → Type 0
-PassedMeans r s = IsPassed r → (f : ℕ → ℕ) → ¬ Meets f s
+PassedMeans r s = checkedAnswer r ≡ answered 0 0 0 → (f : ℕ → ℕ) → ¬ Meets f s

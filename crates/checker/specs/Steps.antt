@@ -2,14 +2,23 @@
 use Prim.Native.Nat.{ℕ}
 use mathlib.Core.Bool.{Bool, true, false}
 use mathlib.Core.List.{List, [], _∷_}
+use mathlib.Core.Path.{_≡_}
+use Rattle.sheet.specs.declared.Header.{Header}
 use Rattle.sheet.specs.declared.Verdict as verdicts
 use Rattle.sheet.specs.declared.Verdict.the-variants as verdict
+use Rattle.sheet.specs.Format.{lotCount}
+use Rattle.sheet.specs.Inner.{HasConditions}
 use Rattle.store.specs.Records.{NodeRecord}
 use Rattle.refutation.specs.Refutation.{Split}
 use Rattle.path.specs.Paths.{pathOf}
 use Rattle.levels.specs.Levels.{Walkable}
 use Rattle.checker.specs.declared.Step.{Step}
 use Rattle.checker.specs.declared.Step.the-variants.{On, Passes, Refuses}
+
+-- The sheet is accepted, and these are its counts of lots and conditions.
+pub record Counted (s : List ℕ) (counts : Header) : Type 0 where
+  pub sheet : HasConditions s (counts .conditions)
+  pub lots : counts .lots ≡ lotCount s
 
 -- The records that are left, and the walk over them, from a record's number and the splits above it.
 abbrev pub Rest : Type 0

@@ -5,8 +5,6 @@ use mathlib.Core.List.{List, [], _∷_}
 use mathlib.Core.Path.{_≡_}
 use lib.ListN.{length, getD, set}
 use lib.Dec.{eqb}
-use Rattle.sheet.specs.Format.{conditionCount}
-use Rattle.sheet.specs.Checks.{Accepted}
 use Rattle.sheet.specs.Conditions.{Term, same, apart}
 use Rattle.equality.specs.Node.{Decisions, classOf}
 use Rattle.classes.specs.Maps.{entries}
@@ -41,8 +39,3 @@ allowsClasses table isSame x y = cond isSame (eqb x y || not (eqb (getD table (c
 abbrev pub allows : List ℕ → List ℕ → Term → Bool
 allows cs table (same a b) = allowsClasses table true (classOf cs a) (classOf cs b)
 allows cs table (apart a b) = allowsClasses table false (classOf cs a) (classOf cs b)
-
--- The sheet is accepted, and has m conditions.
-pub record Checkable (s : List ℕ) (m : ℕ) : Type 0 where
-  pub accepted : Accepted s
-  pub counted : m ≡ conditionCount s

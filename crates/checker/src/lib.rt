@@ -4,8 +4,8 @@ ghost use mathlib.Core.Bool.{not, _||_};
 ghost use Prim.Native.Nat.{ℕ, _+_, _*_, _/_, _%_, _≤_, _<_};
 ghost use lib.Dec.{ltb, eqb};
 ghost use lib.ListN.{length};
-ghost use Rattle.sheet.specs.Format.{mostLots, lotCount, recordCount};
-ghost use Rattle.sheet.specs.Checks.{lotInRange};
+ghost use Rattle.sheet.specs.Format.{mostLots, sameSign, lotCount, recordCount};
+ghost use Rattle.sheet.specs.Inner.{HasConditions};
 ghost use Rattle.sheet.specs.Conditions.{termsFrom};
 ghost use Rattle.equality.specs.Meaning.{anyTerm};
 ghost use mathlib.Core.List.{List};
@@ -15,14 +15,16 @@ ghost use Rattle.refutation.specs.Refutation.{decisionsOf, groundFails, nearest
 ghost use Rattle.path.specs.Paths.{splitLength, pathOf, PathWithin};
 ghost use Rattle.levels.specs.Levels.{Walkable};
 ghost use Rattle.checker.specs.Answers.{checkedAnswer, PassedExactly, PassedMeans};
-ghost use Rattle.checker.specs.Steps.{Rest, WalkRest, stepAs, noneLeft, GoesOn};
+ghost use Rattle.checker.specs.Steps.{Counted, Rest, WalkRest, stepAs, noneLeft, GoesOn};
 ghost use Rattle.classes.specs.Maps.{ClassMap};
-ghost use Rattle.checker.specs.Table.{tableLength, Unmarked, stamped, allows, allowsClasses, Checkable};
+ghost use Rattle.checker.specs.Table.{tableLength, Unmarked, stamped, allows, allowsClasses};
 use classes::ENTRIES;
+use path::Split;
 use sheet::Condition;
-use sheet::Lot;
+use sheet::Header;
 use sheet::Reading;
 use sheet::Record;
+use sheet::SAME;
 use sheet::Verdict;
 use store::NodeNumber;
 use store::NodeRecord;
@@ -47,11 +49,15 @@ pub enum Step {
     Refuses(u32, u32),
 }
 
+// Where the walk stands: at a record of the list, whether that is the last, and how many splits stand above it.
+pub struct Position {
+    pub number: u32,
+    pub last: bool,
+    pub depth: usize,
+}
+
 // The most splits above a record.
 const MOST_SPLITS: usize = 1024;
-
-// The sign of a "same" term.
-const SAME: u8 = 1;
 
 // Stamps a value on the two cells of each pair of the path that is set apart, by the classes of its lots.
 fn stamp(table: &mut [u8], path: &[u32], depth: usize, lots: &[u8], value: u8)
@@ -76,7 +82,7 @@ fn stamp(table: &mut [u8], path: &[u32], depth: usize, lots: &[u8], value: u8)
 // Whether a term of a sign, whose lots have the classes x and y, is true or open.
 fn allows(table: &[u8], sign: u8, x: u8, y: u8) -> bool
     requires { ⌜ (length (now table) ≡ tableLength) × (x ≤ mostLots) × (y ≤ mostLots) ⌝ }
-    ensures { λ r. ⌜ r ≡ allowsClasses (now (table .entry)) (eqb sign 1) x y ⌝ }
+    ensures { λ r. ⌜ r ≡ allowsClasses (now (table .entry)) (eqb sign sameSign) x y ⌝ }
 {
     if sign == SAME {
         x == y || table[ENTRIES * (x as usize) + (y as usize)] != 1
@@ -87,7 +93,7 @@ fn allows(table: &[u8], sign: u8, x: u8, y: u8) -> bool
 
 // Whether every term of the chain from a record on is false.
 fn all_false(sheet: &[u8], m: u16, lots: &[u8], table: &[u8], head: Record) -> bool
-    requires { ⌜ Checkable (now sheet) m × ClassMap (now lots) × (length (now table) ≡ tableLength) × (head .0 ≤ recordCount (now sheet)) ⌝ }
+    requires { ⌜ HasConditions (now sheet) m × ClassMap (now lots) × (length (now table) ≡ tableLength) × (head .0 ≤ recordCount (now sheet)) ⌝ }
     ensures { λ r. ⌜ r ≡ not (anyTerm (allows (now (lots .entry)) (now (table .entry))) (termsFrom (now (sheet .entry)) (head .0))) ⌝ }
 {
     let mut at = head;
@@ -106,7 +112,7 @@ fn all_false(sheet: &[u8], m: u16, lots: &[u8], table: &[u8], head: Record) -> b
 // The first record of the chain whose term is not an "apart" term that is false, or 0. An "apart" term is false exactly if its lots share a class: no mark
 // decides it.
 fn past_apart(sheet: &[u8], m: u16, lots: &[u8], head: Record) -> Record
-    requires { ⌜ Checkable (now sheet) m × ClassMap (now lots) × (head .0 ≤ recordCount (now sheet)) ⌝ }
+    requires { ⌜ HasConditions (now sheet) m × ClassMap (now lots) × (head .0 ≤ recordCount (now sheet)) ⌝ }
     ensures within { λ r. ⌜ r .0 ≤ recordCount (now (sheet .entry)) ⌝ }
     ensures rest { λ r. ⌜ ((table : List ℕ) → anyTerm (allows (now (lots .entry)) table) (termsFrom (now (sheet .entry)) (head .0))
         ≡ anyTerm (allows (now (lots .entry)) table) (termsFrom (now (sheet .entry)) (r .0))) ⌝ }
@@ -139,7 +145,7 @@ fn ground_passes(
     table: &mut [u8],
     c: Condition,
 ) -> bool
-    requires { ⌜ Checkable (now sheet) m × (1 ≤ c .0) × (c .0 ≤ m) × Walkable (now path) (now maps) (now levels) depth × Unmarked (now table) ⌝ }
+    requires { ⌜ HasConditions (now sheet) m × (1 ≤ c .0) × (c .0 ≤ m) × Walkable (now path) (now maps) (now levels) depth × Unmarked (now table) ⌝ }
     ensures passes { λ r. ⌜ r ≡ not (groundFails (decisionsOf (pathOf (now (path .entry)) depth)) (named (now (sheet .entry)) (c .0))) ⌝ }
     ensures table { λ r. ⌜ Unmarked (now (table .exit)) ⌝ }
 {
@@ -155,23 +161,23 @@ fn ground_passes(
     passes
 }
 
-// After a ground, at record r: the nearest split still in its same branch is turned, if its next is the following record; with no such split the list must end.
-fn after_ground(path: &mut [u32], depth: usize, levels: &mut [u8], r: u32, last: bool) -> Step
-    requires { ⌜ (splitLength * depth ≤ length (now path)) × (depth < length (now levels)) × (r ≤ mostNodes) ⌝ }
-    ensures walk { λ v. ⌜ ((walkRest : WalkRest) (rest : Rest) → last ≡ noneLeft rest
-        → afterGround walkRest rest (r + 1) (nearest (pathOf (now (path .entry)) depth)) ≡ stepAs walkRest (r + 1) (now (path .exit)) v) ⌝ }
-    ensures path { λ v. ⌜ ((maps : List ℕ) → Walkable (now (path .entry)) maps (now (levels .entry)) depth → GoesOn (now (path .exit)) maps (now (levels .exit)) v) ⌝ }
+// After a ground: the nearest split still in its same branch is turned, if its next is the following record; with no such split the list must end.
+fn after_ground(path: &mut [u32], levels: &mut [u8], at: Position) -> Step
+    requires { ⌜ (splitLength * at .depth ≤ length (now path)) × (at .depth < length (now levels)) × (at .number ≤ mostNodes) ⌝ }
+    ensures walk { λ v. ⌜ ((walkRest : WalkRest) (rest : Rest) → at .last ≡ noneLeft rest
+        → afterGround walkRest rest (at .number + 1) (nearest (pathOf (now (path .entry)) (at .depth))) ≡ stepAs walkRest (at .number + 1) (now (path .exit)) v) ⌝ }
+    ensures path { λ v. ⌜ ((maps : List ℕ) → Walkable (now (path .entry)) maps (now (levels .entry)) (at .depth) → GoesOn (now (path .exit)) maps (now (levels .exit)) v) ⌝ }
 {
-    let top = path::nearest(path, depth);
+    let top = path::nearest(path, at.depth);
     if top == 0 {
-        return if last {
+        return if at.last {
             Step::Passes
         } else {
-            Step::Refuses(14, r + 1)
+            Step::Refuses(14, at.number + 1)
         };
     }
     let next = path::next_of(path, top);
-    if next.0 != r + 1 {
+    if next.0 != at.number + 1 {
         let number = path::number_of(path, top);
         return Step::Refuses(13, number.0);
     }
@@ -179,136 +185,123 @@ fn after_ground(path: &mut [u32], depth: usize, levels: &mut [u8], r: u32, last:
     Step::On(top)
 }
 
-// Whether a lot is one of a sheet's n.
-fn in_lots(n: u16, lot: Lot) -> bool
-    ensures { λ r. ⌜ r ≡ lotInRange n (lot .0) ⌝ }
-{
-    1 <= lot.0 && lot.0 <= n
-}
-
-// A split at record r: its lots, how many splits stand above it, and the path with it on top.
+// A split, which names a record: its lots, how many splits stand above it, and the path with it on top.
 fn split_step(
     path: &mut [u32],
     depth: usize,
     maps: &mut [u8],
     levels: &mut [u8],
     n: u16,
-    r: u32,
-    a: Lot,
-    b: Lot,
-    next: NodeNumber,
+    split: Split,
 ) -> Step
     requires { ⌜ Walkable (now path) (now maps) (now levels) depth × (n ≤ mostLots) ⌝ }
     ensures walk { λ v. ⌜ ((s : List ℕ) → n ≡ lotCount s → (walkRest : WalkRest) (rest : Rest)
-        → walkRecord s walkRest rest r (pathOf (now (path .entry)) depth) (splitRecord (a .0) (b .0) (next .0)) ≡ stepAs walkRest (r + 1) (now (path .exit)) v) ⌝ }
+        → walkRecord s walkRest rest (split .number .0) (pathOf (now (path .entry)) depth) (splitRecord (split .a .0) (split .b .0) (split .next .0))
+        ≡ stepAs walkRest (split .number .0 + 1) (now (path .exit)) v) ⌝ }
     ensures path { λ v. ⌜ GoesOn (now (path .exit)) (now (maps .exit)) (now (levels .exit)) v ⌝ }
 {
-    if !in_lots(n, a) {
-        return Step::Refuses(11, r);
+    if !sheet::in_lots(n, split.a) {
+        return Step::Refuses(11, split.number.0);
     }
-    if !in_lots(n, b) {
-        return Step::Refuses(11, r);
+    if !sheet::in_lots(n, split.b) {
+        return Step::Refuses(11, split.number.0);
     }
     if MOST_SPLITS <= depth {
-        return Step::Refuses(15, r);
+        return Step::Refuses(15, split.number.0);
     }
-    let split = path::Split {
-        number: NodeNumber(r),
-        next,
-        a,
-        b,
-    };
     Step::On(levels::push(path, depth, maps, levels, split))
 }
 
-// A ground at record r: its condition, the condition's terms under the path, and what follows.
+// A ground: its condition, the condition's terms under the path, and what follows.
 fn ground_step(
     sheet: &[u8],
     m: u16,
     path: &mut [u32],
-    depth: usize,
     maps: &[u8],
     levels: &mut [u8],
     table: &mut [u8],
-    r: u32,
-    last: bool,
+    at: Position,
     c: Condition,
 ) -> Step
-    requires { ⌜ Checkable (now sheet) m × Walkable (now path) (now maps) (now levels) depth × (r ≤ mostNodes) × Unmarked (now table) ⌝ }
-    ensures walk { λ v. ⌜ ((walkRest : WalkRest) (rest : Rest) → last ≡ noneLeft rest
-        → walkRecord (now (sheet .entry)) walkRest rest r (pathOf (now (path .entry)) depth) (groundRecord (c .0)) ≡ stepAs walkRest (r + 1) (now (path .exit)) v) ⌝ }
+    requires { ⌜ HasConditions (now sheet) m × Walkable (now path) (now maps) (now levels) (at .depth) × (at .number ≤ mostNodes) × Unmarked (now table) ⌝ }
+    ensures walk { λ v. ⌜ ((walkRest : WalkRest) (rest : Rest) → at .last ≡ noneLeft rest
+        → walkRecord (now (sheet .entry)) walkRest rest (at .number) (pathOf (now (path .entry)) (at .depth)) (groundRecord (c .0))
+        ≡ stepAs walkRest (at .number + 1) (now (path .exit)) v) ⌝ }
     ensures path { λ v. ⌜ GoesOn (now (path .exit)) (now (maps .entry)) (now (levels .exit)) v ⌝ }
     ensures table { λ v. ⌜ Unmarked (now (table .exit)) ⌝ }
 {
     if c.0 == 0 || m < c.0 {
-        return Step::Refuses(11, r);
+        return Step::Refuses(11, at.number);
     }
-    if !ground_passes(sheet, m, path, depth, maps, levels, table, c) {
-        return Step::Refuses(12, r);
+    if !ground_passes(sheet, m, path, at.depth, maps, levels, table, c) {
+        return Step::Refuses(12, at.number);
     }
-    after_ground(path, depth, levels, r, last)
+    after_ground(path, levels, at)
 }
 
-// Record r of the list, whichever it is.
+// A record of the list, whichever it is.
 fn record_step(
     sheet: &[u8],
-    n: u16,
-    m: u16,
+    counts: Header,
     list: &[u8],
     path: &mut [u32],
-    depth: usize,
     maps: &mut [u8],
     levels: &mut [u8],
     table: &mut [u8],
-    r: u32,
-    last: bool,
+    at: Position,
 ) -> Step
-    requires { ⌜ Checkable (now sheet) m × (n ≡ lotCount (now sheet)) × HasPlace (now list) r × Walkable (now path) (now maps) (now levels) depth × (r ≤ mostNodes) × Unmarked (now table) ⌝ }
-    ensures walk { λ v. ⌜ ((walkRest : WalkRest) (rest : Rest) → last ≡ noneLeft rest
-        → walkRecord (now (sheet .entry)) walkRest rest r (pathOf (now (path .entry)) depth) (recordAt (now (list .entry)) r) ≡ stepAs walkRest (r + 1) (now (path .exit)) v) ⌝ }
+    requires { ⌜ Counted (now sheet) counts × HasPlace (now list) (at .number) × Walkable (now path) (now maps) (now levels) (at .depth) × (at .number ≤ mostNodes) × Unmarked (now table) ⌝ }
+    ensures walk { λ v. ⌜ ((walkRest : WalkRest) (rest : Rest) → at .last ≡ noneLeft rest
+        → walkRecord (now (sheet .entry)) walkRest rest (at .number) (pathOf (now (path .entry)) (at .depth)) (recordAt (now (list .entry)) (at .number))
+        ≡ stepAs walkRest (at .number + 1) (now (path .exit)) v) ⌝ }
     ensures path { λ v. ⌜ GoesOn (now (path .exit)) (now (maps .exit)) (now (levels .exit)) v ⌝ }
     ensures table { λ v. ⌜ Unmarked (now (table .exit)) ⌝ }
 {
-    let node = store::read(list, NodeNumber(r));
+    let number = NodeNumber(at.number);
+    let node = store::read(list, number);
     match node {
-        NodeRecord::Split(a, b, next) => split_step(path, depth, maps, levels, n, r, a, b, next),
+        NodeRecord::Split(a, b, next) => {
+            let split = Split { number, next, a, b };
+            split_step(path, at.depth, maps, levels, counts.lots, split)
+        }
         NodeRecord::Ground(c) => ground_step(
             sheet,
-            m,
+            counts.conditions,
             path,
-            depth,
             maps,
             levels,
             table,
-            r,
-            last,
+            at,
             c,
         ),
-        NodeRecord::Met => Step::Refuses(11, r),
-        NodeRecord::Other => Step::Refuses(11, r),
+        NodeRecord::Met => Step::Refuses(11, at.number),
+        NodeRecord::Other => Step::Refuses(11, at.number),
     }
 }
 
 // The walk over the list, from record 1.
 fn walk(
     sheet: &[u8],
-    n: u16,
-    m: u16,
+    counts: Header,
     list: &[u8],
     path: &mut [u32],
     maps: &mut [u8],
     levels: &mut [u8],
     table: &mut [u8],
 ) -> Verdict
-    requires { ⌜ Checkable (now sheet) m × (n ≡ lotCount (now sheet)) × (length (now list) / recordLength ≤ mostNodes) × Walkable (now path) (now maps) (now levels) 0 × Unmarked (now table) ⌝ }
+    requires { ⌜ Counted (now sheet) counts × (length (now list) / recordLength ≤ mostNodes) × Walkable (now path) (now maps) (now levels) 0 × Unmarked (now table) ⌝ }
     ensures { λ v. ⌜ v ≡ walkVerdict (now (sheet .entry)) (now (list .entry)) ⌝ }
 {
     let count = (list.len() / store::RECORD_LENGTH) as u32;
     let mut depth: usize = 0;
     let mut r: u32 = 1;
     while r <= count {
-        let last = r == count;
-        let step = record_step(sheet, n, m, list, path, depth, maps, levels, table, r, last);
+        let at = Position {
+            number: r,
+            last: r == count,
+            depth,
+        };
+        let step = record_step(sheet, counts, list, path, maps, levels, table, at);
         match step {
             Step::Passes => return Verdict::Passes,
             Step::Refuses(check, place) => return Verdict::Refuses(check, place),
@@ -322,8 +315,8 @@ fn walk(
 }
 
 // The verdict on a list, with a path, its classes and a table of its own.
-fn check_list(sheet: &[u8], n: u16, m: u16, list: &[u8]) -> Verdict
-    requires { ⌜ Checkable (now sheet) m × (n ≡ lotCount (now sheet)) × (length (now list) / recordLength ≤ mostNodes) ⌝ }
+fn check_list(sheet: &[u8], counts: Header, list: &[u8]) -> Verdict
+    requires { ⌜ Counted (now sheet) counts × (length (now list) / recordLength ≤ mostNodes) ⌝ }
     ensures { λ v. ⌜ v ≡ walkVerdict (now (sheet .entry)) (now (list .entry)) ⌝ }
 {
     let mut path = [0u32; PATH_LENGTH];
@@ -333,8 +326,7 @@ fn check_list(sheet: &[u8], n: u16, m: u16, list: &[u8]) -> Verdict
     levels::start(&mut maps);
     walk(
         sheet,
-        n,
-        m,
+        counts,
         list,
         &mut path,
         &mut maps,
@@ -369,7 +361,7 @@ pub fn check(sheet: &[u8], list: &[u8]) -> CheckAnswer
         Reading::Accepted {
             lots,
             conditions,
-            terms: _,
+            terms,
         } => {
             if ill_sized(list) {
                 return CheckAnswer::Refused {
@@ -377,7 +369,12 @@ pub fn check(sheet: &[u8], list: &[u8]) -> CheckAnswer
                     place: 0,
                 };
             }
-            let verdict = check_list(sheet, lots, conditions, list);
+            let counts = Header {
+                lots,
+                conditions,
+                records: terms,
+            };
+            let verdict = check_list(sheet, counts, list);
             match verdict {
                 Verdict::Passes => CheckAnswer::Passed,
                 Verdict::Refuses(check, place) => CheckAnswer::Refused { check, place },

@@ -1,47 +1,49 @@
--- The search's and the evaluator's promises, of the case that they answer, carried over to its numbers.
-use Prim.Native.Nat.{ℕ, zero, suc, _*_, _≤_}
-use mathlib.Core.List.{List, []}
-use mathlib.Core.Path.{_≡_, refl, sym, _∙_}
+-- What the services promise of their answers, carried over to the answers' numbers.
+use Prim.Native.Nat.{ℕ, _*_, _≤_}
+use mathlib.Core.List.{List}
+use mathlib.Core.Path.{_≡_, refl}
 use native.Mathlib.Omega.{arith}
 use lib.ListN.{take}
 use Rattle.sheet.specs.declared.Verdict.{Verdict}
 use Rattle.sheet.specs.declared.Verdict.the-variants.{Passes, Refuses}
-use Rattle.sheet.specs.Conditions.{conditions}
 use Rattle.sheet.specs.declared.Reading.{Reading}
 use Rattle.sheet.specs.declared.Reading.the-variants as reading
-use Rattle.sheet.specs.Answers.{refused, answered, answerOf, readAnswer, readingAnswer}
+use Rattle.sheet.specs.Answers.{Answer, refused, answered, answerOf, readAnswer, readingAnswer}
+use Rattle.sheet.proofs.Verdicts.{not-both}
 use Rattle.sheet.proofs.Readings.{read-accepts, read-refuses}
-use Rattle.equality.specs.Evaluator.{groupingVerdict, numberIn, lowestUnmet, evaluateAnswer}
-use Rattle.equality.proofs.Checked.{sheet-refused}
-use Rattle.evaluator.specs.declared.Evaluation.{Evaluation}
-use Rattle.evaluator.specs.declared.Evaluation.the-variants as evaluation
-use Rattle.evaluator.specs.Answers.{evaluationAnswer, unmetOr, Evaluated}
+use Rattle.sheet.proofs.Numbered.{refusal-number, sheet-numbered}
+use Rattle.equality.specs.Evaluator.{groupingVerdict, evaluateAnswer}
+use Rattle.equality.proofs.Checked.{grouping-numbered}
+use Rattle.evaluator.specs.Answers.{Evaluated}
 use Rattle.store.specs.Records.{recordLength}
-use Rattle.search.specs.declared.SearchAnswer.{SearchAnswer}
-use Rattle.search.specs.declared.SearchAnswer.the-variants.{Met, Cannot, Full, Refused}
-use Rattle.search.specs.Answers.{searchAnswer}
-use Rattle.search.specs.Promises.{RefusedExactly, FullExactly, MetExactly, MetGrouping, CannotExactly, CannotRefutes, CountBounded}
+use Rattle.search.specs.Promises.{FullExactly, FullPlace, MetExactly, MetGrouping, CannotExactly, CannotRefutes, CountBounded}
 use Rattle.search.proofs.Promised.{answer-passing}
 use Rattle.refutation.specs.Refutation.{listVerdict, checkAnswer}
+use Rattle.refutation.proofs.Numbered.{list-numbered}
 use Rattle.checker.specs.declared.CheckAnswer.{CheckAnswer}
 use Rattle.checker.specs.declared.CheckAnswer.the-variants as check
 use Rattle.checker.specs.Answers.{checkedAnswer, PassedExactly, PassedMeans}
 use Rattle.lihumbay.specs.Answers.{numbersOf}
 use Rattle.lihumbay.specs.Promises.{ZeroExactly, NineExactly, OneExactly, OneMeets, TwoExactly, TwoRefutes, NodesBounded, FirstUnmet, ZeroPassed, ZeroMeans}
-use Rattle.lihumbay.proofs.Early.{refusal-early}
-use Rattle.lihumbay.proofs.Numbered.{refusal-numbered}
 
--- A sheet that is refused is not accepted, and the check is not 0: a call with a grouping would fail it too.
+-- The refusal of an answer is its verdict's.
+answer-refuses : (v : Verdict) {first second third check place : ℕ} → refused check place ≡ answerOf v (answered first second third) → v ≡ Refuses check place
+answer-refuses Passes e = let z : _≡_ {A = ℕ} 0 1 = cc in absurd (omega arith)
+answer-refuses (Refuses c p) {check = check} {place = place} e =
+    let same : c ≡ check = cc in
+    let at : p ≡ place = cc in
+    λ i. Refuses (same i) (at i)
+
+-- ---- the reader
+
+-- A sheet that is refused is not accepted, and the check is not 0.
 pub zero-exactly : (s : List ℕ) (a : Reading) → readingAnswer a ≡ readAnswer s → ZeroExactly (numbersOf (readingAnswer a)) s
 zero-exactly s (reading.Accepted n m k) answer = ((λ z. read-accepts s n m k answer .accepted), (λ ok. refl))
 zero-exactly s (reading.Refused check place) answer =
     let refuses = read-refuses s check place answer in (
-      (λ z. absurd (omega (arith, z, refusal-early s [] check place (sheet-refused s [] check place refuses) .0))),
-      (λ ok. absurd (never check place (sym ok ∙ refuses))),
+      (λ z. absurd (omega (arith, z, refusal-number (sheet-numbered s) refuses .0))),
+      (λ ok. absurd (not-both ok refuses)),
     )
-  where
-    never : (check place : ℕ) → Passes ≡ Refuses check place → ⊥
-    never check place e = let z : _≡_ {A = ℕ} 0 1 = cc in absurd (omega arith)
 
 -- ---- the search
 
@@ -77,41 +79,29 @@ module _ (s : List ℕ) where
 
 -- ---- the evaluator
 
-module _ (s grouping : List ℕ) where
-  -- An evaluation that refuses gives the first check that fails.
-  evaluation-refuses : (check place : ℕ) → refused check place ≡ evaluateAnswer s grouping → groupingVerdict s grouping ≡ Refuses check place
-  unfolding evaluateAnswer
-  evaluation-refuses check place e = go (groupingVerdict s grouping) refl e
-    where
-      go : (v : Verdict) → groupingVerdict s grouping ≡ v → refused check place ≡ answerOf v (answered (lowestUnmet (numberIn grouping) 1 (conditions s)) 0 0)
-          → groupingVerdict s grouping ≡ Refuses check place
-      go Passes q e = let z : _≡_ {A = ℕ} 0 1 = cc in absurd (omega arith)
-      go (Refuses c p) q e = let same : c ≡ check = cc in let at : p ≡ place = cc in q ∙ (λ i. Refuses (same i) (at i))
+pub first-unmet : (s grouping : List ℕ) (a : Answer) → a ≡ evaluateAnswer s grouping → Evaluated a s grouping → FirstUnmet (numbersOf a) s grouping
+unfolding evaluateAnswer
+first-unmet s grouping (answered first second third) answer means = λ z. means
+first-unmet s grouping (refused check place) answer means =
+    λ z. absurd (omega (arith, z, refusal-number (grouping-numbered s grouping) (answer-refuses (groupingVerdict s grouping) answer) .0))
 
-  named : (c : ℕ) → Evaluated (evaluation.Unmet (record { 0 = c })) s grouping → Evaluated (unmetOr c) s grouping
-  named zero means = absurd (omega (arith, means .0))
-  named (suc c) means = means
+-- ---- the checker
 
-  pub first-unmet : (e : Evaluation) → evaluationAnswer e ≡ evaluateAnswer s grouping → Evaluated e s grouping → FirstUnmet (numbersOf (evaluationAnswer e)) s grouping
-  first-unmet evaluation.AllMet answer means = λ z. means
-  first-unmet (evaluation.Unmet c) answer means = λ z. named (c .0) means
-  first-unmet (evaluation.Refused check place) answer means = λ z. absurd (omega (arith, z, refusal-early s grouping check place (evaluation-refuses check place answer) .0))
-
--- A refusal that the checker answers is the first check that fails.
-check-refuses : (s list : List ℕ) (check place : ℕ) → refused check place ≡ checkAnswer s list → listVerdict s list ≡ Refuses check place
-unfolding checkAnswer
-check-refuses s list check place e = go (listVerdict s list) refl e
-  where
-    go : (v : Verdict) → listVerdict s list ≡ v → refused check place ≡ answerOf v (answered 0 0 0) → listVerdict s list ≡ Refuses check place
-    go Passes q e = let z : _≡_ {A = ℕ} 0 1 = cc in absurd (omega arith)
-    go (Refuses c p) q e = let same : c ≡ check = cc in let at : p ≡ place = cc in q ∙ (λ i. Refuses (same i) (at i))
+-- A refusal is no answer.
+no-answer : (check place : ℕ) → refused check place ≡ answered 0 0 0 → ⊥
+no-answer check place e = let z : _≡_ {A = ℕ} 0 1 = cc in omega arith
 
 module _ (s list : List ℕ) where
+  -- A refusal's number is not 0.
+  list-first : (check place : ℕ) → refused check place ≡ checkAnswer s list → 1 ≤ check
+  unfolding checkAnswer
+  list-first check place e = refusal-number (list-numbered s list) (answer-refuses (listVerdict s list) e) .0
+
   pub zero-passed : (a : CheckAnswer) → checkedAnswer a ≡ checkAnswer s list → PassedExactly a s list → ZeroPassed (numbersOf (checkedAnswer a)) s list
-  zero-passed check.Passed answer exactly = ((λ z. exactly .0 tt), (λ passes. refl))
+  zero-passed check.Passed answer exactly = ((λ z. exactly .0 refl), (λ passes. refl))
   zero-passed (check.Refused number place) answer exactly =
-      ((λ z. absurd (omega (arith, z, refusal-numbered s list number place (check-refuses s list number place answer)))), (λ passes. absurd (exactly .1 passes)))
+      ((λ z. absurd (omega (arith, z, list-first number place answer))), (λ passes. absurd (no-answer number place (exactly .1 passes))))
 
   pub zero-means : (a : CheckAnswer) → checkedAnswer a ≡ checkAnswer s list → PassedMeans a s → ZeroMeans (numbersOf (checkedAnswer a)) s
-  zero-means check.Passed answer means = λ z. means tt
-  zero-means (check.Refused number place) answer means = λ z. absurd (omega (arith, z, refusal-numbered s list number place (check-refuses s list number place answer)))
+  zero-means check.Passed answer means = λ z. means refl
+  zero-means (check.Refused number place) answer means = λ z. absurd (omega (arith, z, list-first number place answer))

@@ -7,10 +7,11 @@ use lib.ListN.{take}
 use Rattle.sheet.specs.declared.Verdict.the-variants.{Passes}
 use Rattle.sheet.specs.Checks.{Accepted}
 use Rattle.sheet.specs.Conditions.{conditions}
+use Rattle.sheet.specs.Answers.{answered}
 use Rattle.equality.specs.Meaning.{Meets}
 use Rattle.equality.specs.Search.{searchTree, nodeCount, branching}
 use Rattle.equality.specs.Evaluator.{groupingVerdict, GroupingMeets}
-use Rattle.evaluator.specs.Answers.{unmetOr, Evaluated}
+use Rattle.evaluator.specs.Answers.{Evaluated}
 use Rattle.store.specs.Records.{recordLength, capacity}
 use Rattle.refutation.specs.Refutation.{Refutes}
 use Rattle.lihumbay.specs.declared.Numbers.{Numbers}
@@ -45,7 +46,7 @@ NodesBounded r s = (r .check ≡ 0 → r .second < 2 * branching (conditions s))
 
 -- Of an evaluation that was not refused: 0, and the grouping meets the sheet; or the lowest condition that it doesn't meet.
 abbrev pub FirstUnmet : Numbers → List ℕ → List ℕ → Type 0
-FirstUnmet r s grouping = r .check ≡ 0 → Evaluated (unmetOr (r .first)) s grouping
+FirstUnmet r s grouping = r .check ≡ 0 → Evaluated (answered (r .first) (r .second) (r .third)) s grouping
 
 -- Of the checker: no check refuses exactly when the list is a refutation,
 abbrev pub ZeroPassed : Numbers → List ℕ → List ℕ → Type 0

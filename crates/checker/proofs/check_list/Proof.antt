@@ -28,9 +28,10 @@ slice-aggregate-walk-4 c = search needs
 
 walk-requires : tie.Need-walk-requires
 walk-requires c κs =
-    let start = c .before .before .before .before .before .before .before .before .before in
-    let first = c .before .before .before .before .before .start in
-    (start .pre .0, start .pre .1, start .pre .2, walkable-none _ _ _ (omega arith) (first .kept .0) (omega arith) refl (first .ensures), record { size = refl; zeros = zeros tableLength })
+    let started = c .before .before .before .before .before in
+    let start = started .before .before .before .before in
+    let rows = started .start in
+    (start .pre .0, start .pre .1, walkable-none _ _ _ (omega arith) (rows .kept .0) (omega arith) refl (rows .ensures), record { size = refl; zeros = zeros tableLength })
 
 returns : tie.Need-returns
 returns c = search needs

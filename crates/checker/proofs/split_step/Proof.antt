@@ -1,55 +1,104 @@
 -- `checker::split_step`: lots out of range, too many splits above, or the split on top.
 use borrow.Author.Needs.{needs}
 use borrow.Author.Tests.{not-true, not-false}
-use Prim.Native.Nat.{ℕ}
+use Prim.Native.Nat.{ℕ, _≤_}
 use mathlib.Core.Bool.{true}
+use mathlib.Core.List.{List}
 use mathlib.Core.Path.{_≡_, sym, ap, _∙_}
 use native.Mathlib.Omega.{arith}
+use Rattle.sheet.specs.Format.{mostLots, lotCount}
 use Rattle.sheet.specs.Checks.{lotInRange}
+use Rattle.sheet.proofs.Accepted.{lot-in}
+use Rattle.refutation.specs.Refutation as refutation
 use Rattle.path.specs.Paths.{pathOf}
 use Rattle.path.proofs.Splits.{path-length}
-use Rattle.checker.proofs.Stepping.{at-most, first-out, second-out, too-deep, pushed}
+use Rattle.checker.proofs.Stepping.{first-out, second-out, too-deep, pushed}
 use Rattle.checker.proofs.split_step.Statement.{statement}
 use Rattle.checker.proofs.split_step.Tie as tie
+
+-- ---- the places
+
+module _ (start : tie.Start) where
+  abbrev above : List refutation.Split
+  above = pathOf (start .args .path .now) (start .args .depth)
+
+  abbrev r : ℕ
+  r = start .args .split .number .0
+
+  abbrev a : ℕ
+  a = start .args .split .a .0
+
+  abbrev b : ℕ
+  b = start .args .split .b .0
+
+  abbrev next : ℕ
+  next = start .args .split .next .0
+
+  -- A test on a lot by n is one by the sheet's lots.
+  by-sheet : (s : List ℕ) → start .args .n ≡ lotCount s → (lot : ℕ) → lotInRange (lotCount s) lot ≡ lotInRange (start .args .n) lot
+  by-sheet s lots lot = ap (λ (k : ℕ). lotInRange k lot) (sym lots)
+
+  -- A lot in range has an entry in a map.
+  entry : (lot : ℕ) → lotInRange (start .args .n) lot ≡ true → lot ≤ mostLots
+  entry lot e = omega (arith, start .pre .1, lot-in (start .args .n) lot .0 e .high)
+
+abbrev begun : tie.Else1 → tie.Start
+begun c = c .before .before .before .before .before
+
+-- Past the tests both lots are the sheet's.
+first : (c : tie.Else1) → lotInRange (begun c .args .n) (a (begun c)) ≡ true
+first c = sym (c .before .in-lots .ensures) ∙ not-false _ (c .if1 .left)
+
+abbrev one : tie.Else2 → tie.Else1
+one c = c .before .before
+
+second : (c : tie.Else2) → lotInRange (begun (one c) .args .n) (b (begun (one c))) ≡ true
+second c = sym (c .before .in-lots2 .ensures) ∙ not-false _ (c .if2 .left)
+
+-- ---- what is asked
 
 in-lots-requires : tie.Need-in-lots-requires
 in-lots-requires c κs = search needs
 
 returns : tie.Need-returns
-returns c = (
-  (λ s lots walkRest rest. first-out s walkRest rest (c .before .before .before .before .before .args .r) (pathOf (c .before .before .before .before .before .args .path .now) (c .before .before .before .before .before .args .depth)) (c .before .before .before .before .before .args .a .0) (c .before .before .before .before .before .args .b .0) (c .before .before .before .before .before .args .next .0) (ap (λ (k : ℕ). lotInRange k (c .before .before .before .before .before .args .a .0)) (sym lots) ∙ sym (c .before .in-lots .ensures) ∙ not-true _ (c .if1 .taken))),
-  tt,
-)
-
--- Past the tests both lots are the sheet's.
-first : (c : tie.Else1) → lotInRange (c .before .before .before .before .before .args .n) (c .before .before .before .before .before .args .a .0) ≡ true
-first c = sym (c .before .in-lots .ensures) ∙ not-false _ (c .if1 .left)
-
-second : (c : tie.Else2) → lotInRange (c .before .before .before .before .before .before .before .args .n) (c .before .before .before .before .before .before .before .args .b .0) ≡ true
-second c = sym (c .before .in-lots2 .ensures) ∙ not-false _ (c .if2 .left)
+returns c =
+    let start = c .before .before .before .before .before in (
+      (λ s lots walkRest rest.
+          first-out s walkRest rest (r start) (above start) (a start) (b start) (next start)
+          (by-sheet start s lots (a start) ∙ sym (c .before .in-lots .ensures) ∙ not-true _ (c .if1 .taken))),
+      tt,
+    )
 
 in-lots-requires-2 : tie.Need-in-lots-requires-2
 in-lots-requires-2 c κs = search needs
 
 returns-2 : tie.Need-returns-2
-returns-2 c = (
-  (λ s lots walkRest rest. second-out s walkRest rest (c .before .before .before .before .before .before .before .args .r) (pathOf (c .before .before .before .before .before .before .before .args .path .now) (c .before .before .before .before .before .before .before .args .depth)) (c .before .before .before .before .before .before .before .args .a .0) (c .before .before .before .before .before .before .before .args .b .0) (c .before .before .before .before .before .before .before .args .next .0) (ap (λ (k : ℕ). lotInRange k (c .before .before .before .before .before .before .before .args .a .0)) (sym lots) ∙ first (c .before .before)) (ap (λ (k : ℕ). lotInRange k (c .before .before .before .before .before .before .before .args .b .0)) (sym lots) ∙ sym (c .before .in-lots2 .ensures) ∙ not-true _ (c .if2 .taken))),
-  tt,
-)
+returns-2 c =
+    let else = c .before .before in
+    let start = begun else in (
+      (λ s lots walkRest rest.
+          second-out s walkRest rest (r start) (above start) (a start) (b start) (next start)
+          (by-sheet start s lots (a start) ∙ first else) (by-sheet start s lots (b start) ∙ sym (c .before .in-lots2 .ensures) ∙ not-true _ (c .if2 .taken))),
+      tt,
+    )
 
 returns-3 : tie.Need-returns-3
-returns-3 c = (
-  (λ s lots walkRest rest. too-deep s walkRest rest (c .before .before .before .before .before .before .before .before .args .r) (pathOf (c .before .before .before .before .before .before .before .before .args .path .now) (c .before .before .before .before .before .before .before .before .args .depth)) (c .before .before .before .before .before .before .before .before .args .a .0) (c .before .before .before .before .before .before .before .before .args .b .0) (c .before .before .before .before .before .before .before .before .args .next .0) (ap (λ (k : ℕ). lotInRange k (c .before .before .before .before .before .before .before .before .args .a .0)) (sym lots) ∙ first (c .before .before .before)) (ap (λ (k : ℕ). lotInRange k (c .before .before .before .before .before .before .before .before .args .b .0)) (sym lots) ∙ second (c .before)) (rw (path-length (c .before .before .before .before .before .before .before .before .args .path .now) (c .before .before .before .before .before .before .before .before .args .depth)) (c .if3 .taken))),
-  tt,
-)
+returns-3 c =
+    let else = c .before in
+    let start = begun (one else) in (
+      (λ s lots walkRest rest.
+          too-deep s walkRest rest (r start) (above start) (a start) (b start) (next start)
+          (by-sheet start s lots (a start) ∙ first (one else)) (by-sheet start s lots (b start) ∙ second else)
+          (rw (path-length (start .args .path .now) (start .args .depth)) (c .if3 .taken))),
+      tt,
+    )
 
 push-requires : tie.Need-push-requires
-push-requires c κs = let start = c .before .before .before .before .before .before .before .before .before .before .before in (
-  start .pre .0,
-  omega (arith, c .before .before .before .if3 .left),
-  omega (arith, start .pre .1, at-most (start .args .n) (start .args .a .0) (first (c .before .before .before .before .before .before))),
-  omega (arith, start .pre .1, at-most (start .args .n) (start .args .b .0) (second (c .before .before .before .before))),
-)
+push-requires c κs =
+    let deep = c .before .before .before in
+    let else = deep .before in
+    let start = begun (one else) in
+    (start .pre .0, omega (arith, deep .if3 .left), entry start (a start) (first (one else)), entry start (b start) (second else))
 
 same-length : tie.Need-same-length
 same-length c = search needs
@@ -62,13 +111,16 @@ same-length-3 c = search needs
 
 returns-4 : tie.Need-returns-4
 returns-4 c =
-    let on-top = c .before .before .before .before .before .before .push in (
-      (λ s lots walkRest rest. pushed s walkRest rest (c .before .before .before .before .before .before .before .before .before .before .before .before .before .before .before .before .before .before .args .r) (pathOf (c .before .before .before .before .before .before .before .before .before .before .before .before .before .before .before .before .before .before .args .path .now) (c .before .before .before .before .before .before .before .before .before .before .before .before .before .before .before .before .before .before .args .depth)) (c .before .before .before .before .before .before .before .before .before .before .before .before .before .before .before .before .before .before .args .a .0) (c .before .before .before .before .before .before .before .before .before .before .before .before .before .before .before .before .before .before .args .b .0) (c .before .before .before .before .before .before .before .before .before .before .before .before .before .before .before .before .before .before .args .next .0)
-          (ap (λ (k : ℕ). lotInRange k (c .before .before .before .before .before .before .before .before .before .before .before .before .before .before .before .before .before .before .args .a .0)) (sym lots) ∙ first (c .before .before .before .before .before .before .before .before .before .before .before .before .before))
-          (ap (λ (k : ℕ). lotInRange k (c .before .before .before .before .before .before .before .before .before .before .before .before .before .before .before .before .before .before .args .b .0)) (sym lots) ∙ second (c .before .before .before .before .before .before .before .before .before .before .before))
-          (rw (path-length (c .before .before .before .before .before .before .before .before .before .before .before .before .before .before .before .before .before .before .args .path .now) (c .before .before .before .before .before .before .before .before .before .before .before .before .before .before .before .before .before .before .args .depth)) (omega (arith, c .before .before .before .before .before .before .before .before .before .before .if3 .left)))
-          _ (on-top .ensures .0)),
-      on-top .ensures .1,
+    let push = c .before .before .before .before .before .before in
+    let deep = push .before .before .before .before in
+    let else = deep .before in
+    let start = begun (one else) in (
+      (λ s lots walkRest rest.
+          pushed s walkRest rest (r start) (above start) (a start) (b start) (next start)
+          (by-sheet start s lots (a start) ∙ first (one else)) (by-sheet start s lots (b start) ∙ second else)
+          (rw (path-length (start .args .path .now) (start .args .depth)) (omega (arith, deep .if3 .left)))
+          _ (push .push .ensures .0)),
+      push .push .ensures .1,
     )
 
 pub split-step-spec : {M : Type 1} → statement M

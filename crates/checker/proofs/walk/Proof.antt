@@ -1,13 +1,15 @@
 -- `checker::walk`: at record r the verdict is that of the walk over what is left, below the path's splits; the levels are those of the path, and the table has
 -- no marks.
 use borrow.Author.Needs.{needs}
-use Prim.Native.Nat.{_+_, _-_, _/_, _≤_}
+use Prim.Native.Nat.{ℕ, _+_, _-_, _/_, _≤_}
+use mathlib.Core.List.{List}
 use mathlib.Core.Path.{_≡_, refl, sym, ap, subst, _∙_}
 use native.Mathlib.Omega.{arith}
 use lib.ListN.{length, drop}
 use Rattle.store.specs.Records.{recordLength, recordsOf}
 use Rattle.refutation.specs.Refutation.{walkFrom, walkVerdict}
 use Rattle.levels.specs.Levels.{Walkable}
+use Rattle.checker.specs.declared.Step.{Step}
 use Rattle.checker.specs.Table.{Unmarked}
 use Rattle.checker.specs.Steps.{stepAs, GoesOn}
 use Rattle.checker.proofs.Walking.{Walking, walking-start, walking-step, walking-on, walking-end}
@@ -15,7 +17,7 @@ use Rattle.checker.proofs.walk.Statement.{statement}
 use Rattle.checker.proofs.walk.Tie as tie
 
 abbrev Inv-loop : tie.InvT-loop
-Inv-loop sheet n m list path₀ maps₀ levels₀ table₀ count depth₀ r₀ path maps levels table depth r =
+Inv-loop sheet counts list path₀ maps₀ levels₀ table₀ count depth₀ r₀ path maps levels table depth r =
     (1 ≤ r)
     × (r ≤ count + 1)
     × Walking sheet list path depth r
@@ -25,39 +27,66 @@ Inv-loop sheet n m list path₀ maps₀ levels₀ table₀ count depth₀ r₀ p
     × (length levels ≡ length levels₀)
 
 abbrev μ-loop : tie.MeasureT-loop
-μ-loop sheet n m list path₀ maps₀ levels₀ table₀ count depth₀ r₀ path maps levels table depth r = count + 1 - r
+μ-loop sheet counts list path₀ maps₀ levels₀ table₀ count depth₀ r₀ path maps levels table depth r = count + 1 - r
 
 cast-count : tie.Need-cast-count Inv-loop μ-loop
 cast-count c = search needs
 
 loop-holds : tie.Need-loop-holds Inv-loop μ-loop
-loop-holds c = let start = c .before .before .before .before .before .before in
-    (omega arith, omega arith, walking-start (start .args .sheet .now) (start .args .list .now) (start .args .path .now), start .pre .3, start .pre .4, refl, refl)
+loop-holds c =
+    let start = c .before .before .before .before .before .before in
+    (omega arith, omega arith, walking-start (start .args .sheet .now) (start .args .list .now) (start .args .path .now), start .pre .2, start .pre .3, refl, refl)
 
--- In a turn record r is one of the list's.
-numbered : (c : tie.In-loop Inv-loop μ-loop) → c .before .loop .r ≤ length (c .before .before .before .before .before .before .before .before .args .list .now) / recordLength
-numbered c = omega (arith, c)
+-- ---- a turn
+
+module _ (c : tie.In-loop Inv-loop μ-loop) where
+  abbrev begun : tie.Start Inv-loop μ-loop
+  begun = c .before .before .before .before .before .before .before .before
+
+  abbrev s : List ℕ
+  s = begun .args .sheet .now
+
+  abbrev list : List ℕ
+  list = begun .args .list .now
+
+  abbrev r : ℕ
+  r = c .before .loop .r
+
+  -- Record r is one of the list's.
+  numbered : r ≤ length list / recordLength
+  numbered = omega (arith, c)
 
 record-step-requires : tie.Need-record-step-requires Inv-loop μ-loop
-record-step-requires c κs = let start = c .before .before .before .before .before .before .before .before .before .before .before .before in
-    let inv = c .before .before .before .before .before .loop .inv in (
-      start .pre .0,
-      start .pre .1,
-      record { least = inv .0; whole = omega (arith, numbered (c .before .before .before .before)) },
-      inv .3,
-      omega (arith, numbered (c .before .before .before .before), start .pre .2),
-      inv .4,
-    )
+record-step-requires c κs =
+    let turn = c .before .before .before .before in
+    let start = begun turn in
+    let inv = turn .before .loop .inv in
+    (start .pre .0, record { least = inv .0; whole = omega (arith, numbered turn) }, inv .3, omega (arith, numbered turn, start .pre .1), inv .4)
 
--- What the step comes to is what the walk does.
-stepped : (c : tie.After-record-step Inv-loop μ-loop)
-    → walkVerdict (c .before .before .before .before .before .before .before .before .before .before .before .before .before .args .sheet .now) (c .before .before .before .before .before .before .before .before .before .before .before .before .before .args .list .now)
-    ≡ stepAs (walkFrom (c .before .before .before .before .before .before .before .before .before .before .before .before .before .args .sheet .now) (drop (c .before .before .before .before .before .before .loop .r) (recordsOf (c .before .before .before .before .before .before .before .before .before .before .before .before .before .args .list .now)))) (c .before .before .before .before .before .before .loop .r + 1) (c .record-step .last .1 .1 .1 .1 .0) (c .record-step .result)
-stepped c =
-    let start = c .before .before .before .before .before .before .before .before .before .before .before .before .before in
-    let inv = c .before .before .before .before .before .before .loop .inv in
-    walking-step (start .args .sheet .now) (start .args .list .now) (c .before .before .before .before .before .before .loop .path) (c .record-step .last .1 .1 .1 .1 .0) (c .before .before .before .before .before .before .loop .depth) (c .before .before .before .before .before .before .loop .r)
-    (inv .2) (inv .0) (numbered (c .before .before .before .before .before)) (c .record-step .result) (c .record-step .ensures .0)
+-- The turn in which a step was made, and what the step leaves: the path, the maps and the levels.
+module _ (c : tie.After-record-step Inv-loop μ-loop) where
+  abbrev turn : tie.In-loop Inv-loop μ-loop
+  turn = c .before .before .before .before .before
+
+  abbrev path : List ℕ
+  path = c .record-step .last .1 .1 .1 .0
+
+  abbrev maps : List ℕ
+  maps = c .record-step .last .1 .1 .1 .1 .0
+
+  abbrev levels : List ℕ
+  levels = c .record-step .last .1 .1 .1 .1 .1 .0
+
+  -- What the step comes to is what the walk does.
+  stepped : (v : Step) → c .record-step .result ≡ v
+      → walkVerdict (s turn) (list turn) ≡ stepAs (walkFrom (s turn) (drop (r turn) (recordsOf (list turn)))) (r turn + 1) path v
+  stepped v told =
+      let l = turn .before .loop in
+      walking-step (s turn) (list turn) (l .path) path (l .depth) (l .r) (l .inv .2) (l .inv .0) (numbered turn) (c .record-step .result) (c .record-step .ensures .0)
+      ∙ ap (stepAs (walkFrom (s turn) (drop (r turn) (recordsOf (list turn)))) (r turn + 1) path) told
+
+abbrev made : tie.After-slice-known8 Inv-loop μ-loop → tie.After-record-step Inv-loop μ-loop
+made c = c .before .before .before .before .before .before .before .before
 
 enum-told : tie.Need-enum-told Inv-loop μ-loop
 enum-told c = search needs
@@ -75,7 +104,7 @@ same-length-4 : tie.Need-same-length-4 Inv-loop μ-loop
 same-length-4 c = search needs
 
 returns : tie.Need-returns Inv-loop μ-loop
-returns c = sym (stepped (c .before .before .before .before .before .before .before .before .before .before) ∙ ap (stepAs _ _ (c .before .before .before .before .before .before .before .before .before .before .record-step .last .1 .1 .1 .1 .0)) (c .enum-told .given .1))
+returns c = sym (stepped (made (c .before .before)) _ (c .enum-told .given .1))
 
 enum-known-step : tie.Need-enum-known-step Inv-loop μ-loop
 enum-known-step c = search needs
@@ -93,7 +122,7 @@ same-length-8 : tie.Need-same-length-8 Inv-loop μ-loop
 same-length-8 c = search needs
 
 returns-2 : tie.Need-returns-2 Inv-loop μ-loop
-returns-2 c = sym (stepped (c .before .before .before .before .before .before .before .before .before .before .before) ∙ ap (stepAs _ _ (c .before .before .before .before .before .before .before .before .before .before .before .record-step .last .1 .1 .1 .1 .0)) (c .before .step .given .1))
+returns-2 c = sym (stepped (made (c .before .before .before)) _ (c .before .step .given .1))
 
 enum-known-step-2 : tie.Need-enum-known-step-2 Inv-loop μ-loop
 enum-known-step-2 c = search needs
@@ -102,20 +131,21 @@ add-r : tie.Need-add-r Inv-loop μ-loop
 add-r c = search needs
 
 loop-less : tie.Need-loop-less Inv-loop μ-loop
-loop-less c = omega (arith, numbered (c .before .before .before .before .before .before .before .before .before .before .before .before .before .before .before .before))
+loop-less c = omega (arith, numbered (turn (made (c .before .before .before))))
 
 loop-again : tie.Need-loop-again Inv-loop μ-loop
-loop-again c = let start = c .before .before .before .before .before .before .before .before .before .before .before .before .before .before .before .before .before .before .before .before .before .before .before .before in
-    let step = c .before .before .before .before .before .before .before .before .before .before .before .record-step in
-    let inv = c .before .before .before .before .before .before .before .before .before .before .before .before .before .before .before .before .before .loop .inv in
-    let told = c .before .step2 .given in (
+loop-again c =
+    let step = made (c .before .before .before) in
+    let told = c .before .step2 .given in
+    let t = turn step in
+    let inv = t .before .loop .inv in (
       omega arith,
-      omega (arith, numbered (c .before .before .before .before .before .before .before .before .before .before .before .before .before .before .before .before)),
-      walking-on (start .args .sheet .now) (start .args .list .now) (step .last .1 .1 .1 .1 .0) (told .0 .0) (c .before .before .before .before .before .before .before .before .before .before .before .before .before .before .before .before .before .loop .r) (stepped (c .before .before .before .before .before .before .before .before .before .before .before) ∙ ap (stepAs _ _ (c .before .before .before .before .before .before .before .before .before .before .before .record-step .last .1 .1 .1 .1 .0)) (told .1)),
-      subst (GoesOn (step .last .1 .1 .1 .1 .0) (step .last .1 .1 .1 .1 .1 .1 .0) (step .last .1 .1 .1 .1 .1 .1 .1 .0)) (told .1) (step .ensures .1 .0),
-      step .ensures .1 .1,
-      step .kept .1 .1 .1 .1 .0 ∙ inv .5,
-      step .kept .1 .1 .1 .1 .1 .1 .1 .0 ∙ inv .6,
+      omega (arith, numbered t),
+      walking-on (s t) (list t) (path step) (told .0 .0) (r t) (stepped step _ (told .1)),
+      subst (GoesOn (path step) (maps step) (levels step)) (told .1) (step .record-step .ensures .1 .0),
+      step .record-step .ensures .1 .1,
+      step .record-step .kept .1 .1 .1 .0 ∙ inv .5,
+      step .record-step .kept .1 .1 .1 .1 .1 .0 ∙ inv .6,
     )
 
 same-length-9 : tie.Need-same-length-9 Inv-loop μ-loop
@@ -131,8 +161,10 @@ same-length-12 : tie.Need-same-length-12 Inv-loop μ-loop
 same-length-12 c = search needs
 
 returns-3 : tie.Need-returns-3 Inv-loop μ-loop
-returns-3 c = let start = c .before .before .before .before .before .before .before .before in
-    sym (walking-end (start .args .sheet .now) (start .args .list .now) (c .before .loop .path) (c .before .loop .depth) (c .before .loop .r) (c .before .loop .inv .2) (omega (arith, c)))
+returns-3 c =
+    let l = c .before .loop in
+    let start = c .before .before .before .before .before .before .before .before in
+    sym (walking-end (start .args .sheet .now) (start .args .list .now) (l .path) (l .depth) (l .r) (l .inv .2) (omega (arith, c)))
 
 pub walk-spec : {M : Type 1} → statement M
 walk-spec =

@@ -1,6 +1,7 @@
 -- `lihumbay::lihumbay_evaluate`: the numbers of the evaluator's answer.
 use borrow.Author.Needs.{needs}
 use mathlib.Core.Path.{ap, _∙_}
+use Rattle.evaluator.specs.Answers.{evaluationAnswer}
 use Rattle.lihumbay.specs.Answers.{numbersOf}
 use Rattle.lihumbay.proofs.Promised.{first-unmet}
 use Rattle.lihumbay.proofs.lihumbay_evaluate.Statement.{statement}
@@ -16,8 +17,8 @@ returns : tie.Need-returns
 returns c =
     let called = c .before .evaluate in
     let start = c .before .before .before .before .args in (
-      c .of-evaluation .ensures ∙ ap numbersOf (called .ensures .0),
-      rw (c .of-evaluation .ensures) (first-unmet (start .sheet .now) (start .grouping .now) (called .result) (called .ensures .0) (called .ensures .1)),
+      c .of-evaluation .ensures ∙ ap numbersOf (called .ensures .1 .0),
+      rw (c .of-evaluation .ensures) (first-unmet (start .sheet .now) (start .grouping .now) (evaluationAnswer (called .result)) (called .ensures .1 .0) (called .ensures .1 .1)),
     )
 
 pub lihumbay-evaluate-spec : {M : Type 1} → statement M

@@ -1,6 +1,8 @@
 -- `lihumbay::lihumbay_search`: the numbers of the search's answer, and the two buffers as it leaves them.
 use borrow.Author.Needs.{needs}
 use mathlib.Core.Path.{ap, _∙_}
+use Rattle.search.specs.Answers.{searchAnswer}
+use Rattle.search.proofs.Promised.{refused-first}
 use Rattle.lihumbay.specs.Answers.{numbersOf}
 use Rattle.lihumbay.proofs.Promised.{nine, one, one-meets, two, two-refutes, bounded}
 use Rattle.lihumbay.proofs.lihumbay_search.Statement.{statement}
@@ -23,25 +25,26 @@ returns c =
     let called = c .before .before .before .before .before .search in
     let begin = c .before .before .before .before .before .before .before .before .before .before .before .args in
     let s = begin .sheet .now in
-    let grouping = begin .grouping .now in
-    let early = called .ensures .1 .1 .1 .1 .0 in
+    let told = c .of-search .ensures in
+    let a = searchAnswer (called .result) in
+    let first = refused-first s (begin .grouping .now) (begin .store .now) a (called .ensures .1 .0) in
     let promised = called .ensures .1 .1 .1 .1 .1 in (
-      c .of-search .ensures ∙ ap numbersOf (called .ensures .1 .0),
+      told ∙ ap numbersOf (called .ensures .1 .0),
       (
         called .ensures .1 .1 .0,
         (
           called .ensures .1 .1 .1 .0,
           (
-            rw (c .of-search .ensures) (nine s grouping (begin .store .now) (called .result) early (promised .0)),
+            rw told (nine s (begin .grouping .now) (begin .store .now) a (promised .0) (promised .1 .0)),
             (
-              rw (c .of-search .ensures) (one s grouping (called .result) early (promised .1 .1 .0)),
+              rw told (one s a first (promised .1 .1 .0)),
               (
-                rw (c .of-search .ensures) (one-meets s grouping (called .last .1 .0) (called .result) early (promised .1 .1 .1 .0)),
+                rw told (one-meets s (called .last .1 .0) a first (promised .1 .1 .1 .0)),
                 (
-                  rw (c .of-search .ensures) (two s grouping (called .result) early (promised .1 .1 .1 .1 .0)),
+                  rw told (two s a first (promised .1 .1 .1 .1 .0)),
                   (
-                    rw (c .of-search .ensures) (two-refutes s grouping (called .last .1 .1 .0) (called .result) early (promised .1 .1 .1 .1 .1 .0)),
-                    rw (c .of-search .ensures) (bounded s grouping (called .result) early (promised .1 .1 .1 .1 .1 .1)),
+                    rw told (two-refutes s (called .last .1 .1 .0) a first (promised .1 .1 .1 .1 .1 .0)),
+                    rw told (bounded s a first (promised .1 .1 .1 .1 .1 .1)),
                   ),
                 ),
               ),
