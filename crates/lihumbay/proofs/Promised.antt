@@ -1,18 +1,19 @@
 -- What the services promise of their answers, carried over to the answers' numbers.
 use Prim.Native.Nat.{ℕ, _*_, _≤_}
 use mathlib.Core.List.{List}
-use mathlib.Core.Path.{_≡_, refl}
+use mathlib.Core.Path.{_≡_, refl, ap, _∙_}
 use native.Mathlib.Omega.{arith}
 use lib.ListN.{take}
 use Rattle.sheet.specs.declared.Verdict.{Verdict}
 use Rattle.sheet.specs.declared.Verdict.the-variants.{Passes, Refuses}
 use Rattle.sheet.specs.declared.Reading.{Reading}
 use Rattle.sheet.specs.declared.Reading.the-variants as reading
+use Rattle.sheet.specs.Conditions.{conditions}
 use Rattle.sheet.specs.Answers.{Answer, refused, answered, answerOf, readAnswer, readingAnswer}
 use Rattle.sheet.proofs.Verdicts.{not-both}
 use Rattle.sheet.proofs.Readings.{read-accepts, read-refuses}
 use Rattle.sheet.proofs.Numbered.{refusal-number, sheet-numbered}
-use Rattle.equality.specs.Evaluator.{groupingVerdict, evaluateAnswer}
+use Rattle.equality.specs.Evaluator.{groupingVerdict, numberIn, lowestUnmet, evaluateAnswer}
 use Rattle.equality.proofs.Checked.{grouping-numbered}
 use Rattle.evaluator.specs.Answers.{Evaluated}
 use Rattle.store.specs.Records.{recordLength}
@@ -27,9 +28,9 @@ use Rattle.lihumbay.specs.Answers.{numbersOf}
 use Rattle.lihumbay.specs.Promises.{ZeroExactly, NineExactly, OneExactly, OneMeets, TwoExactly, TwoRefutes, NodesBounded, FirstUnmet, ZeroPassed, ZeroMeans}
 
 -- The refusal of an answer is its verdict's.
-answer-refuses : (v : Verdict) {first second third check place : ℕ} → refused check place ≡ answerOf v (answered first second third) → v ≡ Refuses check place
-answer-refuses Passes e = let z : _≡_ {A = ℕ} 0 1 = cc in absurd (omega arith)
-answer-refuses (Refuses c p) {check = check} {place = place} e =
+answer-refuses : (v : Verdict) (first second third : ℕ) {check place : ℕ} → refused check place ≡ answerOf v (answered first second third) → v ≡ Refuses check place
+answer-refuses Passes first second third e = let z : _≡_ {A = ℕ} 0 1 = cc in absurd (omega arith)
+answer-refuses (Refuses c p) first second third {check = check} {place = place} e =
     let same : c ≡ check = cc in
     let at : p ≡ place = cc in
     λ i. Refuses (same i) (at i)
@@ -54,7 +55,10 @@ First a = (check place : ℕ) → a ≡ refused check place → 1 ≤ check
 module _ (s : List ℕ) where
   pub nine : (grouping store : List ℕ) (a : Answer) → FullExactly a s grouping store → FullPlace a store → NineExactly (numbersOf a) s grouping store
   nine grouping store (refused check place) full at =
-      ((λ e. full .0 (rw (at place (λ i. refused (e i) place)) (λ i. refused (e i) (at place (λ j. refused (e j) place) i)))), (λ h. let q = full .1 h in cc))
+      ((λ e. full .0 (named e ∙ ap (refused 9) (at place (named e)))), (λ h. let q = full .1 h in cc))
+    where
+      named : check ≡ 9 → refused check place ≡ refused 9 place
+      named e = ap (λ (c : ℕ). refused c place) e
   nine grouping store (answered first second third) full at = ((λ e. absurd (omega (arith, e))), (λ h. let q = full .1 h in let z : _≡_ {A = ℕ} 0 1 = cc in absurd (omega arith)))
 
   pub one : (a : Answer) → First a → MetExactly a s → OneExactly (numbersOf a) s
@@ -83,7 +87,7 @@ pub first-unmet : (s grouping : List ℕ) (a : Answer) → a ≡ evaluateAnswer 
 unfolding evaluateAnswer
 first-unmet s grouping (answered first second third) answer means = λ z. means
 first-unmet s grouping (refused check place) answer means =
-    λ z. absurd (omega (arith, z, refusal-number (grouping-numbered s grouping) (answer-refuses (groupingVerdict s grouping) answer) .0))
+    λ z. absurd (omega (arith, z, refusal-number (grouping-numbered s grouping) (answer-refuses (groupingVerdict s grouping) (lowestUnmet (numberIn grouping) 1 (conditions s)) 0 0 answer) .0))
 
 -- ---- the checker
 
@@ -95,7 +99,7 @@ module _ (s list : List ℕ) where
   -- A refusal's number is not 0.
   list-first : (check place : ℕ) → refused check place ≡ checkAnswer s list → 1 ≤ check
   unfolding checkAnswer
-  list-first check place e = refusal-number (list-numbered s list) (answer-refuses (listVerdict s list) e) .0
+  list-first check place e = refusal-number (list-numbered s list) (answer-refuses (listVerdict s list) 0 0 0 e) .0
 
   pub zero-passed : (a : CheckAnswer) → checkedAnswer a ≡ checkAnswer s list → PassedExactly a s list → ZeroPassed (numbersOf (checkedAnswer a)) s list
   zero-passed check.Passed answer exactly = ((λ z. exactly .0 refl), (λ passes. refl))

@@ -124,7 +124,7 @@ module _ (s grouping store : List ℕ) (a : Answer) (e : a ≡ searchOutcome s g
   refused-first = by-ends (λ (o : Answer). (check place : ℕ) → o ≡ refused check place → 1 ≤ check) go
     where
       go : (result : Result) → Ends s grouping store result → (check place : ℕ) → resultAnswer result ≡ refused check place → 1 ≤ check
-      go result (ends-refused {c} v) check place q = let same : c ≡ check = cc in omega (arith, same, refusal-number (grouping-numbered s grouping) v .0)
+      go result (ends-refused {check = c} v) check place q = let same : c ≡ check = cc in omega (arith, same, refusal-number (grouping-numbered s grouping) v .0)
       go result (ends-full v more) check place q = let nine : _≡_ {A = ℕ} 9 check = cc in omega (arith, nine)
       go result (ends-met v fits m) check place q = absurd (refused-answered (sym q))
       go result (ends-cannot v fits m) check place q = absurd (refused-answered (sym q))
