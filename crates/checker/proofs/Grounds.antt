@@ -14,21 +14,12 @@ use Rattle.sheet.proofs.Conditions.{conditions-length, conditions-at}
 use Rattle.equality.specs.Meaning.{someTerm}
 use Rattle.equality.specs.Node.{Decisions, classOf, classes, share, markedApart, isTrue, isFalse, isOpen, value}
 use Rattle.equality.proofs.Small.{Small, all-map, conditions-small}
-use Rattle.equality.proofs.Classes.{classes-length}
-use Rattle.equality.proofs.Least.{least}
 use Rattle.equality.proofs.Some.{some-agree}
 use Rattle.refutation.specs.Refutation.{notFalse, groundFails, named}
 use Rattle.refutation.proofs.Sound.{all-nth}
-use Rattle.classes.specs.Maps.{ClassesWithin, ClassMap}
+use Rattle.classes.proofs.Maps.{classes-within}
 use Rattle.checker.specs.Table.{cell, Unmarked, stamped, allows}
 use Rattle.checker.proofs.Marks.{marks-say}
-
--- The classes of a path are lots, and so they are a class map.
-pub classes-within : (ds : Decisions) → ClassesWithin (classes ds)
-classes-within ds lot h = omega (arith, least ds lot h)
-
-pub class-map : (ds : Decisions) → ClassMap (classes ds)
-class-map ds = record { size = classes-length ds; within = classes-within ds }
 
 module _ (ds : Decisions) (small : All Small ds) (table : List ℕ) (none : Unmarked table) where
   by-marks : (a b : ℕ) → a ≤ mostLots → b ≤ mostLots

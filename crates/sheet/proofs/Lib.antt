@@ -18,6 +18,6 @@ pub mod CanonicalChains
 pub mod CanonicalBytes
 pub mod Canonical
 mod Tests
-mod Marks
+mod Flags
 mod WalkLoops
 pub mod Lending
