@@ -16,20 +16,11 @@ use Rattle.equality.specs.Node.{Decisions, classOf, classes, share, markedApart
 use Rattle.equality.specs.Opens.{Small}
 use Rattle.buffers.proofs.Lists.{all-map, all-nth}
 use Rattle.equality.proofs.Small.{conditions-small}
-use Rattle.equality.proofs.Classes.{classes-length}
-use Rattle.equality.proofs.Least.{least}
 use Rattle.equality.proofs.Some.{some-agree}
 use Rattle.refutation.specs.Refutation.{notFalse, groundFails, named}
-use Rattle.classes.specs.Maps.{ClassesWithin, ClassMap}
+use Rattle.classes.proofs.Maps.{classes-within}
 use Rattle.checker.specs.Table.{cell, Unmarked, stamped, allows}
 use Rattle.checker.proofs.Marks.{marks-say}
-
--- The classes of a path are lots, and so they are a class map.
-pub classes-within : (ds : Decisions) → ClassesWithin (classes ds)
-classes-within ds lot h = omega (arith, least ds lot)
-
-pub class-map : (ds : Decisions) → ClassMap (classes ds)
-class-map ds = record { size = classes-length ds; within = classes-within ds }
 
 module _ (ds : Decisions) (small : All Small ds) (table : List ℕ) (none : Unmarked table) where
   by-marks : (a b : ℕ) → a ≤ mostLots → b ≤ mostLots

@@ -1,3 +1,4 @@
+pub mod Maps
 pub mod Path
 mod Rewriting
 mod Marks

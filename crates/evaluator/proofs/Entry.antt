@@ -8,7 +8,7 @@ use lib.ListN.{length, getD}
 use Rattle.sheet.specs.declared.Verdict.{Verdict}
 use Rattle.sheet.specs.declared.Verdict.the-variants.{Passes, Refuses}
 use Rattle.sheet.specs.Conditions.{conditionAt, conditions}
-use Rattle.sheet.specs.Answers.{refused, answered, answerOf}
+use Rattle.sheet.specs.Answers.{answered, answerOf}
 use Rattle.sheet.proofs.Conditions.{conditions-length, conditions-at}
 use Rattle.equality.specs.Meaning.{meetsCondition}
 use Rattle.equality.specs.Evaluator.{groupingVerdict, numberIn, lowestUnmet, evaluateAnswer}

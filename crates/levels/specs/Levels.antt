@@ -1,6 +1,6 @@
 -- The classes under each split of a path, in lent bytes: a class map for each level, and the level under so many splits. For the contracts of the
 -- code; this file states nothing of document 01.
-use Prim.Native.Nat.{ℕ, suc, _*_, _≤_, _<_}
+use Prim.Native.Nat.{ℕ, _*_, _≤_, _<_}
 use mathlib.Core.List.{List, [], _∷_}
 use mathlib.Core.Path.{_≡_}
 use lib.ListN.{length, getD, take, drop}

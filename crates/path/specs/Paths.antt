@@ -5,7 +5,7 @@ use mathlib.Core.Bool.{cond}
 use mathlib.Core.List.{List, [], _∷_}
 use lib.ListN.{length, getD, set}
 use denote.Ref.{now, at-last}
-use Rattle.sheet.specs.Format.{mostLots}
+use Rattle.sheet.specs.Format.{mostLots, sameSign, apartSign}
 use Rattle.sheet.specs.Conditions.{Term, same, apart, termOf}
 use Rattle.refutation.specs.Refutation.{Split, Nearest, noSplit, sameSplit}
 use Rattle.path.specs.declared.Split as declared
@@ -16,12 +16,12 @@ use Rattle.path.specs.declared.Path as declared-path
 abbrev pub splitLength : ℕ
 splitLength = 5
 
--- The branch taken is written as the sign of its decision: 1 "same", and 2 "apart".
+-- The branch taken is written as the sign of its decision.
 abbrev pub sameBranch : ℕ
-sameBranch = 1
+sameBranch = sameSign
 
 abbrev pub apartBranch : ℕ
-apartBranch = 2
+apartBranch = apartSign
 
 -- ---- the i-th split from the root, counted from 0
 

@@ -14,11 +14,10 @@ use store::NodeNumber;
 // The numbers of a split: its record number, its next, the branch taken, lot a, lot b. A record number has 32 bits, so that no list is too long for it.
 pub const SPLIT_LENGTH: usize = 5;
 
-// The same branch taken.
-const SAME: u32 = 1;
+// The branch taken is written as the sign of its decision.
+const SAME_BRANCH: u32 = sheet::SAME as u32;
 
-// The apart branch taken.
-const APART: u32 = 2;
+const APART_BRANCH: u32 = sheet::APART as u32;
 
 // A split, as it is pushed; its lots as written in the record.
 pub struct Split {
@@ -49,7 +48,7 @@ fn push_at(splits: &mut [u32], depth: usize, split: Split) -> usize
     let at = SPLIT_LENGTH * depth;
     splits[at] = split.number.0;
     splits[at + 1] = split.next.0;
-    splits[at + 2] = SAME;
+    splits[at + 2] = SAME_BRANCH;
     splits[at + 3] = split.a.0 as u32;
     splits[at + 4] = split.b.0 as u32;
     depth + 1
@@ -60,7 +59,7 @@ fn turn_at(splits: &mut [u32], depth: usize)
     requires { ⌜ (0 < depth) × (splitLength * depth ≤ length (now splits)) ⌝ }
     ensures { λ _. ⌜ now (splits .exit) ≡ turnedAt (now (splits .entry)) depth ⌝ }
 {
-    splits[SPLIT_LENGTH * (depth - 1) + 2] = APART;
+    splits[SPLIT_LENGTH * (depth - 1) + 2] = APART_BRANCH;
 }
 
 // A split goes on top of the lent path, in its same branch.
@@ -143,7 +142,7 @@ pub fn nearest(path: &mut [u32], depth: usize) -> usize
     let mut top = depth;
     while 0 < top {
         let branch = path[SPLIT_LENGTH * (top - 1) + 2];
-        if branch == SAME {
+        if branch == SAME_BRANCH {
             return top;
         }
         top = drop_last(path, top);
@@ -175,7 +174,7 @@ pub fn pair_at(path: &[u32], i: usize) -> Pair
 {
     let at = SPLIT_LENGTH * i;
     Pair {
-        same: path[at + 2] == SAME,
+        same: path[at + 2] == SAME_BRANCH,
         a: Lot(path[at + 3] as u16),
         b: Lot(path[at + 4] as u16),
     }

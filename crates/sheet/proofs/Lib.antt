@@ -15,5 +15,5 @@ pub mod Conditions
 pub mod Scanning
 pub mod Accepting
 mod Tests
-mod Marks
+mod Flags
 mod WalkLoops

@@ -11,29 +11,29 @@ use Rattle.sheet.specs.declared.Verdict.the-variants.{Passes, Refuses}
 use Rattle.sheet.specs.declared.Verdict.{Verdict}
 use Rattle.sheet.specs.Format.{conditionCount, recordCount, headAt, nextAt}
 use Rattle.sheet.specs.Checks.{Walk, reached, twice, member, walkChain, walkChains, walked, chainsVerdict, reachedBy, orElse, lowestRefusal, check6, check7}
-use Rattle.sheet.specs.Inner.{Marks, isMarked, oneChain, WalkedTo, unmarkedVerdict}
+use Rattle.sheet.specs.Inner.{Flags, isFlagged, oneChain, WalkedTo, unflaggedVerdict}
 use Rattle.sheet.proofs.Verdicts.{not-both, lowest-agrees}
 use Rattle.sheet.proofs.Walks.{walk-end, walk-twice, walk-more, chains-twice}
-use Rattle.sheet.proofs.Marks.{unmarked, unmarked-le, unmarked-falls, mark}
+use Rattle.sheet.proofs.Flags.{unflagged, unflagged-le, unflagged-falls, flag}
 
 -- ---- along one chain
 
--- The walk goes on at record r: the marks stand for what it has seen, and it has fuel for each record that is not marked.
-pub record Ahead (s marks : List ℕ) (r : ℕ) (walk : Walk) : Type 0 where
+-- The walk goes on at record r: the flags stand for what it has seen, and it has fuel for each record that is not flagged.
+pub record Ahead (s flags : List ℕ) (r : ℕ) (walk : Walk) : Type 0 where
   pub fuel : ℕ
   pub seen : List ℕ
-  pub stand : Marks marks seen
-  pub enough : unmarked marks ≤ fuel
+  pub stand : Flags flags seen
+  pub enough : unflagged flags ≤ fuel
   pub rest : walk ≡ walkChain s (suc fuel) seen r
 
--- One chain's loop, which began at `head` with `marks₀`: whatever those stood for, the walk goes on at record r.
-pub record Walking (s marks₀ : List ℕ) (head : ℕ) (marks : List ℕ) (r : ℕ) : Type 0 where
-  pub room : length marks ≡ recordCount s
+-- One chain's loop, which began at `head` with `flags₀`: whatever those stood for, the walk goes on at record r.
+pub record Walking (s flags₀ : List ℕ) (head : ℕ) (flags : List ℕ) (r : ℕ) : Type 0 where
+  pub room : length flags ≡ recordCount s
   pub within : r ≤ recordCount s
-  pub ahead : (seen : List ℕ) → Marks marks₀ seen → Ahead s marks r (oneChain s seen head)
+  pub ahead : (seen : List ℕ) → Flags flags₀ seen → Ahead s flags r (oneChain s seen head)
 
-pub begun : (s marks : List ℕ) (head : ℕ) → length marks ≡ recordCount s → head ≤ recordCount s → Walking s marks head marks head
-begun s marks head room within =
+pub begun : (s flags : List ℕ) (head : ℕ) → length flags ≡ recordCount s → head ≤ recordCount s → Walking s flags head flags head
+begun s flags head room within =
     record {
       room = room;
       within = within;
@@ -42,35 +42,35 @@ begun s marks head room within =
             fuel = recordCount s;
             seen = seen;
             stand = stand;
-            enough = omega (arith, unmarked-le marks);
+            enough = omega (arith, unflagged-le flags);
             rest = refl;
           };
     }
 
-module _ {s marks₀ : List ℕ} {head : ℕ} {marks : List ℕ} {r : ℕ} (w : Walking s marks₀ head marks r) where
-  pub ended : r ≡ 0 → (seen : List ℕ) → Marks marks₀ seen → WalkedTo (oneChain s seen head) Passes marks
+module _ {s flags₀ : List ℕ} {head : ℕ} {flags : List ℕ} {r : ℕ} (w : Walking s flags₀ head flags r) where
+  pub ended : r ≡ 0 → (seen : List ℕ) → Flags flags₀ seen → WalkedTo (oneChain s seen head) Passes flags
   ended e seen stand =
       let a = w .ahead seen stand in
       rw (a .rest, e, walk-end) (refl, a .stand)
 
   module _ (some : r ≡ 0 → ⊥) where
-    among : r ≤ length marks
+    among : r ≤ length flags
     among = omega (arith, w .room, w .within)
 
-    pub hit : getD marks (r - 1) 0 ≡ 1 → (seen : List ℕ) → Marks marks₀ seen → WalkedTo (oneChain s seen head) (Refuses 6 r) marks
+    pub hit : getD flags (r - 1) 0 ≡ 1 → (seen : List ℕ) → Flags flags₀ seen → WalkedTo (oneChain s seen head) (Refuses 6 r) flags
     hit e seen stand =
         let a = w .ahead seen stand in
         let known : member r (a .seen) ≡ true = sym (a .stand .stand r (omega arith) among) ∙ eq-eqb _ _ e in
         rw (a .rest ∙ walk-twice s (a .fuel) (a .seen) r (omega arith) known)
 
-    module _ (f : getD marks (r - 1) 0 ≡ 1 → ⊥) where
-      pub fewer : unmarked (set marks (r - 1) 1) < unmarked marks
-      fewer = unmarked-falls marks (r - 1) (omega (arith, among)) f
+    module _ (f : getD flags (r - 1) 0 ≡ 1 → ⊥) where
+      pub fewer : unflagged (set flags (r - 1) 1) < unflagged flags
+      fewer = unflagged-falls flags (r - 1) (omega (arith, among)) f
 
-      pub more : nextAt s r ≤ recordCount s → Walking s marks₀ head (set marks (r - 1) 1) (nextAt s r)
+      pub more : nextAt s r ≤ recordCount s → Walking s flags₀ head (set flags (r - 1) 1) (nextAt s r)
       more linked =
           record {
-            room = length-set marks (r - 1) 1 ∙ w .room;
+            room = length-set flags (r - 1) 1 ∙ w .room;
             within = linked;
             ahead = λ seen stand.
                 let a = w .ahead seen stand in
@@ -78,7 +78,7 @@ module _ {s marks₀ : List ℕ} {head : ℕ} {marks : List ℕ} {r : ℕ} (w : 
                 record {
                   fuel = a .fuel - 1;
                   seen = r ∷ a .seen;
-                  stand = mark (omega arith) among (a .stand);
+                  stand = flag (omega arith) among (a .stand);
                   enough = omega (arith, fewer, a .enough);
                   rest = a .rest ∙ walk-more s (a .fuel) (a .seen) r (omega arith) fresh
                       ∙ ap (λ (n : ℕ). walkChain s n (r ∷ a .seen) (nextAt s r)) (omega (arith, fewer, a .enough));
@@ -87,16 +87,16 @@ module _ {s marks₀ : List ℕ} {head : ℕ} {marks : List ℕ} {r : ℕ} (w : 
 
 -- ---- over all conditions
 
--- The loop over conditions, at condition c: the marks stand for what the chains before c have seen.
-pub record Chaining (s marks : List ℕ) (c : ℕ) : Type 0 where
-  pub room : length marks ≡ recordCount s
+-- The loop over conditions, at condition c: the flags stand for what the chains before c have seen.
+pub record Chaining (s flags : List ℕ) (c : ℕ) : Type 0 where
+  pub room : length flags ≡ recordCount s
   pub least : 1 ≤ c
   pub most : c ≤ conditionCount s + 1
   pub seen : List ℕ
-  pub stand : Marks marks seen
+  pub stand : Flags flags seen
   pub rest : walked s ≡ walkChains s (conditionCount s + 1 - c) c (reached seen)
 
-pub none-yet : (s : List ℕ) {marks : List ℕ} → length marks ≡ recordCount s → Marks marks [] → Chaining s marks 1
+pub none-yet : (s : List ℕ) {flags : List ℕ} → length flags ≡ recordCount s → Flags flags [] → Chaining s flags 1
 unfolding walked
 none-yet s room stand =
     record {
@@ -108,8 +108,8 @@ none-yet s room stand =
       rest = ap (λ (n : ℕ). walkChains s n 1 (reached [])) (omega arith);
     }
 
-module _ {s marks : List ℕ} {c : ℕ} (i : Chaining s marks c) where
-  pub all-walked : conditionCount s < c → WalkedTo (walked s) Passes marks
+module _ {s flags : List ℕ} {c : ℕ} (i : Chaining s flags c) where
+  pub all-walked : conditionCount s < c → WalkedTo (walked s) Passes flags
   unfolding walkChains
   all-walked past =
       let none : conditionCount s + 1 - c ≡ 0 = omega (arith, i .most) in
@@ -123,7 +123,7 @@ module _ {s marks : List ℕ} {c : ℕ} (i : Chaining s marks c) where
         let one-more : conditionCount s + 1 - c ≡ suc (conditionCount s - c) = omega arith in
         i .rest ∙ rw (one-more, add-one)
 
-    -- Where it refuses, so does the whole walk, with whatever marks.
+    -- Where it refuses, so does the whole walk, with whatever flags.
     pub chain-refused : {v : Verdict} {check place : ℕ} → v ≡ Refuses check place → (after : List ℕ)
         → WalkedTo (oneChain s (i .seen) (headAt s c)) v after → WalkedTo (walked s) v after
     chain-refused {v} {check} {place} told after = go (oneChain s (i .seen) (headAt s c)) next-chain
@@ -151,25 +151,25 @@ module _ {s marks : List ℕ} {c : ℕ} (i : Chaining s marks c) where
 -- ---- checks 6 and 7, from what the walk along all chains says
 
 module _ (s : List ℕ) {v : Verdict} where
-  pub walk-refused : {check place : ℕ} → v ≡ Refuses check place → (marks : List ℕ) → WalkedTo (walked s) v marks
+  pub walk-refused : {check place : ℕ} → v ≡ Refuses check place → (flags : List ℕ) → WalkedTo (walked s) v flags
       → v ≡ orElse (check6 s) (check7 s)
   unfolding check6
-  walk-refused {check} {place} told marks = go (walked s) refl
+  walk-refused {check} {place} told flags = go (walked s) refl
     where
-      go : (w : Walk) → walked s ≡ w → WalkedTo w v marks → v ≡ orElse (chainsVerdict (walked s)) (check7 s)
+      go : (w : Walk) → walked s ≡ w → WalkedTo w v flags → v ≡ orElse (chainsVerdict (walked s)) (check7 s)
       go (reached seen) e same = absurd (not-both (same .0) told)
       go (twice r) e same = rw e same
 
-  pub walk-passed : v ≡ Passes → (marks : List ℕ) → length marks ≡ recordCount s → WalkedTo (walked s) v marks
-      → unmarkedVerdict marks ≡ orElse (check6 s) (check7 s)
-  unfolding check6 check7 unmarkedVerdict
-  walk-passed told marks room = go (walked s) refl
+  pub walk-passed : v ≡ Passes → (flags : List ℕ) → length flags ≡ recordCount s → WalkedTo (walked s) v flags
+      → unflaggedVerdict flags ≡ orElse (check6 s) (check7 s)
+  unfolding check6 check7 unflaggedVerdict
+  walk-passed told flags room = go (walked s) refl
     where
-      go : (w : Walk) → walked s ≡ w → WalkedTo w v marks
-          → unmarkedVerdict marks
+      go : (w : Walk) → walked s ≡ w → WalkedTo w v flags
+          → unflaggedVerdict flags
           ≡ orElse (chainsVerdict (walked s)) (lowestRefusal 7 (λ r. not (member r (reachedBy (walked s)))) (recordCount s) 1)
       go (reached seen) e same =
           rw (e, room)
-          (lowest-agrees 7 (λ r. not (isMarked marks r)) (λ r. not (member r seen)) (recordCount s) 1
+          (lowest-agrees 7 (λ r. not (isFlagged flags r)) (λ r. not (member r seen)) (recordCount s) 1
           (λ r low high. ap not (same .1 .stand r low (omega arith))))
       go (twice r) e same = absurd (not-both told same)

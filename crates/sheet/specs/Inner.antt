@@ -47,24 +47,24 @@ pub record HasConditions (s : List ℕ) (m : ℕ) : Type 0 where
   pub accepted : Accepted s
   pub counted : m ≡ conditionCount s
 
--- ---- marks of the records that a walk has reached: mark i is that of record i + 1, and 1 stands for "reached"
+-- ---- flags of the records that a walk has reached: flag i is that of record i + 1, and 1 stands for "reached"
 
--- Whether record r is marked.
-abbrev pub isMarked : List ℕ → ℕ → Bool
-isMarked marks r = eqb (getD marks (r - 1) 0) 1
+-- Whether record r is flagged.
+abbrev pub isFlagged : List ℕ → ℕ → Bool
+isFlagged flags r = eqb (getD flags (r - 1) 0) 1
 
--- The marks stand for the records in `seen`.
-pub record Marks (marks seen : List ℕ) : Type 0 where
-  pub stand : (r : ℕ) → 1 ≤ r → r ≤ length marks → isMarked marks r ≡ member r seen
+-- The flags stand for the records in `seen`.
+pub record Flags (flags seen : List ℕ) : Type 0 where
+  pub stand : (r : ℕ) → 1 ≤ r → r ≤ length flags → isFlagged flags r ≡ member r seen
 
--- Check 7 over marks: the lowest record that is not marked.
-unfoldable pub unmarkedVerdict : List ℕ → Verdict
-unmarkedVerdict marks = lowestRefusal 7 (λ r. not (isMarked marks r)) (length marks) 1
+-- Check 7 over flags: the lowest record that is not flagged.
+unfoldable pub unflaggedVerdict : List ℕ → Verdict
+unflaggedVerdict flags = lowestRefusal 7 (λ r. not (isFlagged flags r)) (length flags) 1
 
--- What a walk needs of the bytes s, of which checks 1 to 5 have passed, and of the marks: it never leaves the records.
-pub record Walkable (s : List ℕ) (h : Header) (marks : List ℕ) : Type 0 where
+-- What a walk needs of the bytes s, of which checks 1 to 5 have passed, and of the flags: it never leaves the records.
+pub record Walkable (s : List ℕ) (h : Header) (flags : List ℕ) : Type 0 where
   pub header : HasHeader s h
-  pub room : length marks ≡ recordCount s
+  pub room : length flags ≡ recordCount s
   pub heads : (c : ℕ) → 1 ≤ c → c ≤ conditionCount s → headAt s c ≤ recordCount s
   pub nexts : (r : ℕ) → 1 ≤ r → r ≤ recordCount s → nextAt s r ≤ recordCount s
 
@@ -72,7 +72,7 @@ pub record Walkable (s : List ℕ) (h : Header) (marks : List ℕ) : Type 0 wher
 abbrev pub oneChain : List ℕ → List ℕ → ℕ → Walk
 oneChain s seen head = walkChain s (suc (recordCount s)) seen head
 
--- A walk's verdict, and the marks that it leaves where it passes.
+-- A walk's verdict, and the flags that it leaves where it passes.
 abbrev pub WalkedTo : Walk → Verdict → List ℕ → Type 0
-WalkedTo (reached seen) verdict marks = (verdict ≡ Passes) × Marks marks seen
-WalkedTo (twice r) verdict marks = verdict ≡ Refuses 6 r
+WalkedTo (reached seen) verdict flags = (verdict ≡ Passes) × Flags flags seen
+WalkedTo (twice r) verdict flags = verdict ≡ Refuses 6 r

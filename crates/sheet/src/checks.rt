@@ -6,7 +6,7 @@ ghost use lib.Dec.{eqb};
 ghost use lib.ListN.{length};
 ghost use Rattle.sheet.specs.Format.{mostRecords, sameSign, apartSign};
 ghost use Rattle.sheet.specs.Checks.{firstRefusal, headerChecks, check4, check5, wellFormed};
-ghost use Rattle.sheet.specs.Inner.{HasHeader, HasRecord, headerAt, unmarkedVerdict};
+ghost use Rattle.sheet.specs.Inner.{HasHeader, HasRecord, headerAt, unflaggedVerdict};
 use crate::APART;
 use crate::Condition;
 use crate::Header;
@@ -100,14 +100,14 @@ fn sign_known(sign: u8) -> bool
     sign == SAME || sign == APART
 }
 
-// Check 7: each record is marked as reached. Mark i is that of record i + 1.
-pub(crate) fn reached(marks: &[u8]) -> Verdict
-    requires { ⌜ length (now marks) ≤ mostRecords ⌝ }
-    ensures { λ v. ⌜ v ≡ unmarkedVerdict (now (marks .entry)) ⌝ }
+// Check 7: each record is flagged as reached. Flag i is that of record i + 1.
+pub(crate) fn reached(flags: &[u8]) -> Verdict
+    requires { ⌜ length (now flags) ≤ mostRecords ⌝ }
+    ensures { λ v. ⌜ v ≡ unflaggedVerdict (now (flags .entry)) ⌝ }
 {
     let mut r: usize = 1;
-    while r <= marks.len() {
-        if marks[r - 1] != 1 {
+    while r <= flags.len() {
+        if flags[r - 1] != 1 {
             return Verdict::Refuses(7, r as u32);
         }
         r += 1;

@@ -5,7 +5,7 @@ ghost use Prim.Native.Nat.{ℕ, _≤_};
 ghost use Rattle.sheet.specs.declared.Verdict.the-variants.{Passes};
 ghost use Rattle.sheet.specs.Format.{recordCount};
 ghost use Rattle.sheet.specs.Checks.{walked, orElse, check4, check5, check6, check7};
-ghost use Rattle.sheet.specs.Inner.{HasHeader, Marks, Walkable, WalkedTo, oneChain};
+ghost use Rattle.sheet.specs.Inner.{HasHeader, Flags, Walkable, WalkedTo, oneChain};
 use crate::Condition;
 use crate::Header;
 use crate::Record;
@@ -14,20 +14,20 @@ use crate::chain;
 use crate::checks;
 use crate::format;
 
-// One chain, from its head to the zero. It ends since each step marks a record that was not marked before.
-fn walk_chain(sheet: &[u8], h: Header, head: Record, marks: &mut [u8]) -> Verdict
-    requires { ⌜ Walkable (now sheet) h (now marks) × (head .0 ≤ recordCount (now sheet)) ⌝ }
-    ensures { λ v. ⌜ ((seen : List ℕ) → Marks (now (marks .entry)) seen
-        → WalkedTo (oneChain (now (sheet .entry)) seen (head .0)) v (now (marks .exit))) ⌝ }
+// One chain, from its head to the zero. It ends since each step flags a record that was not flagged before.
+fn walk_chain(sheet: &[u8], h: Header, head: Record, flags: &mut [u8]) -> Verdict
+    requires { ⌜ Walkable (now sheet) h (now flags) × (head .0 ≤ recordCount (now sheet)) ⌝ }
+    ensures { λ v. ⌜ ((seen : List ℕ) → Flags (now (flags .entry)) seen
+        → WalkedTo (oneChain (now (sheet .entry)) seen (head .0)) v (now (flags .exit))) ⌝ }
 {
     let m = h.conditions;
     let mut at = head;
     while at.0 != 0 {
         let i = (at.0 - 1) as usize;
-        if marks[i] == 1 {
+        if flags[i] == 1 {
             return Verdict::Refuses(6, at.0 as u32);
         }
-        marks[i] = 1;
+        flags[i] = 1;
         let t = chain::term_at(sheet, at, m);
         at = t.next;
     }
@@ -35,15 +35,15 @@ fn walk_chain(sheet: &[u8], h: Header, head: Record, marks: &mut [u8]) -> Verdic
 }
 
 // The chains of all conditions, walked in order.
-fn walk(sheet: &[u8], h: Header, marks: &mut [u8]) -> Verdict
-    requires { ⌜ Walkable (now sheet) h (now marks) × Marks (now marks) [] ⌝ }
-    ensures { λ v. ⌜ WalkedTo (walked (now (sheet .entry))) v (now (marks .exit)) ⌝ }
+fn walk(sheet: &[u8], h: Header, flags: &mut [u8]) -> Verdict
+    requires { ⌜ Walkable (now sheet) h (now flags) × Flags (now flags) [] ⌝ }
+    ensures { λ v. ⌜ WalkedTo (walked (now (sheet .entry))) v (now (flags .exit)) ⌝ }
 {
     let m = h.conditions;
     let mut c: u16 = 1;
     while c <= m {
         let head = format::head_at(sheet, Condition(c));
-        let v = walk_chain(sheet, h, head, marks);
+        let v = walk_chain(sheet, h, head, flags);
         if let Verdict::Refuses(_, _) = v {
             return v;
         }
@@ -52,16 +52,16 @@ fn walk(sheet: &[u8], h: Header, marks: &mut [u8]) -> Verdict
     Verdict::Passes
 }
 
-// Checks 6 and 7: each record is reached, and once. No mark is set yet.
-fn reached_once(sheet: &[u8], h: Header, marks: &mut [u8]) -> Verdict
-    requires { ⌜ Walkable (now sheet) h (now marks) × Marks (now marks) [] ⌝ }
+// Checks 6 and 7: each record is reached, and once. No flag is set yet.
+fn reached_once(sheet: &[u8], h: Header, flags: &mut [u8]) -> Verdict
+    requires { ⌜ Walkable (now sheet) h (now flags) × Flags (now flags) [] ⌝ }
     ensures { λ v. ⌜ v ≡ orElse (check6 (now (sheet .entry))) (check7 (now (sheet .entry))) ⌝ }
 {
-    let v = walk(sheet, h, marks);
+    let v = walk(sheet, h, flags);
     if let Verdict::Refuses(_, _) = v {
         return v;
     }
-    checks::reached(marks)
+    checks::reached(flags)
 }
 
 // Checks 6 and 7, once checks 1 to 5 have passed.
@@ -70,6 +70,6 @@ pub(crate) fn check(sheet: &[u8], h: Header) -> Verdict
     ensures { λ v. ⌜ v ≡ orElse (check6 (now (sheet .entry))) (check7 (now (sheet .entry))) ⌝ }
 {
     let k = h.records as usize;
-    let mut marks = [0u8; 1024];
-    reached_once(sheet, h, &mut marks[..k])
+    let mut flags = [0u8; 1024];
+    reached_once(sheet, h, &mut flags[..k])
 }

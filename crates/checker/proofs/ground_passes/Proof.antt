@@ -20,7 +20,8 @@ use Rattle.levels.proofs.Leveling.{top-classes, top-level}
 use Rattle.classes.specs.Maps.{ClassMap}
 use Rattle.checker.specs.Table.{Unmarked, stamped, allows}
 use Rattle.checker.proofs.Marks.{marks-cleared}
-use Rattle.checker.proofs.Grounds.{class-map, classes-within, ground-agrees}
+use Rattle.classes.proofs.Maps.{classes-within, class-map}
+use Rattle.checker.proofs.Grounds.{ground-agrees}
 use Rattle.checker.proofs.ground_passes.Statement.{statement}
 use Rattle.checker.proofs.ground_passes.Tie as tie
 

@@ -1,11 +1,11 @@
 -- `evaluator::first_unmet`: the conditions that the loop has passed are met.
-use mathlib.Core.Path.{_≡_, refl, sym, ap, _∙_}
-use Prim.Native.Nat.{ℕ, suc, _+_, _-_, _≤_, _<_}
+use mathlib.Core.Path.{_≡_, sym, ap, _∙_}
+use Prim.Native.Nat.{ℕ, suc, _+_, _-_, _<_}
 use mathlib.Core.List.{List}
 use native.Mathlib.Numerals.{add-one}
 use native.Mathlib.Omega.{arith}
 use borrow.Author.Tests.{not-true, not-false}
-use Rattle.sheet.specs.Format.{conditionCount, headAt}
+use Rattle.sheet.specs.Format.{conditionCount}
 use Rattle.sheet.specs.Conditions.{conditionAt, termsFrom}
 use Rattle.sheet.proofs.Accepted.{Sound, sound}
 use Rattle.sheet.proofs.Scanning.{Scanning, scanning-start, found-here, scanning-next, none-found}

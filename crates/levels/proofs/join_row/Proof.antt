@@ -1,10 +1,8 @@
 -- `levels::join_row`: the next row is copied from the level's, lent, and comes back with the classes joined; those before it are as they were.
 use borrow.Author.Needs.{needs}
 use Prim.Native.Nat.{ℕ, _+_, _*_, _-_}
-use mathlib.Core.List.{List}
 use mathlib.Core.Path.{_≡_, ap, _∙_}
 use native.Mathlib.Omega.{arith}
-use borrow.Rule.Slice.PartMut.{putMid}
 use lib.ListN.{length, take, drop}
 use Rattle.equality.specs.Node.{merged}
 use Rattle.classes.specs.Maps.{entries}

@@ -1,11 +1,8 @@
 -- `levels::start`: the first row is lent, and comes back with every lot alone.
 use borrow.Author.Needs.{needs}
-use Prim.Native.Nat.{ℕ}
-use mathlib.Core.List.{List, []}
-use mathlib.Core.Path.{_≡_, sym, ap, _∙_}
+use mathlib.Core.List.{[]}
+use mathlib.Core.Path.{sym, _∙_}
 use native.Mathlib.Omega.{arith}
-use lib.ListN.{length, take, drop, length-take}
-use Rattle.classes.specs.Maps.{entries}
 use Rattle.levels.proofs.Rows.{row-length, row-put}
 use Rattle.levels.proofs.start.Statement.{statement}
 use Rattle.levels.proofs.start.Tie as tie

@@ -1,4 +1,4 @@
--- `sheet::checks::reached` meets its contract. The loop's invariant: each record before the present one is marked.
+-- `sheet::checks::reached` meets its contract. The loop's invariant: each record before the present one is flagged.
 -- The measure is how many records are left.
 use Prim.Native.Nat.{ℕ, _+_, _-_}
 use mathlib.Core.Bool.{Bool, not}
@@ -7,19 +7,19 @@ use mathlib.Core.Path.{ap}
 use lib.ListN.{length}
 use borrow.Author.Needs.{needs}
 use borrow.Author.Tests.{eq-eqb, ne-eqb}
-use Rattle.sheet.specs.Inner.{isMarked, unmarkedVerdict}
+use Rattle.sheet.specs.Inner.{isFlagged, unflaggedVerdict}
 use Rattle.sheet.proofs.Loops.{Counting, start, end, refused, passed}
 use Rattle.sheet.proofs.checks.reached.Statement.{statement}
 use Rattle.sheet.proofs.checks.reached.Tie as tie
 
-abbrev notMarked : List ℕ → ℕ → Bool
-notMarked marks r = not (isMarked marks r)
+abbrev notFlagged : List ℕ → ℕ → Bool
+notFlagged flags r = not (isFlagged flags r)
 
 abbrev Inv-loop : tie.InvT-loop
-Inv-loop marks r₀ r = Counting 7 (notMarked marks) (length marks) r
+Inv-loop flags r₀ r = Counting 7 (notFlagged flags) (length flags) r
 
 abbrev μ-loop : tie.MeasureT-loop
-μ-loop marks r₀ r = length marks + 1 - r
+μ-loop flags r₀ r = length flags + 1 - r
 
 loop-holds : tie.Need-loop-holds Inv-loop μ-loop
 loop-holds c = start
@@ -34,7 +34,7 @@ cast-t7 : tie.Need-cast-t7 Inv-loop μ-loop
 cast-t7 c = search needs
 
 returns : tie.Need-returns Inv-loop μ-loop
-unfolding unmarkedVerdict
+unfolding unflaggedVerdict
 returns c =
     let t = c .before .before in
     refused (t .before .loop .inv) (t .loop-test .taken) (ap not (ne-eqb _ _ (c .if1 .taken)))
@@ -51,7 +51,7 @@ loop-again c =
     passed (t .before .loop .inv) (t .loop-test .taken) (ap not (eq-eqb _ _ (c .if1 .left)))
 
 returns-2 : tie.Need-returns-2 Inv-loop μ-loop
-unfolding unmarkedVerdict
+unfolding unflaggedVerdict
 returns-2 c = end (c .before .loop .inv) (c .loop-test .left)
 
 pub reached-spec : {M : Type 1} → statement M

@@ -1,23 +1,23 @@
--- `sheet::once::check` meets its contract: k zeros are marks of which none is set, and checks 1 to 5 make the sheet one to walk.
+-- `sheet::once::check` meets its contract: k zeros are flags of which none is set, and checks 1 to 5 make the sheet one to walk.
 use Prim.Native.Nat.{ℕ, _≤_}
 use mathlib.Core.List.{List}
 use mathlib.Core.Path.{sym, _∙_}
 use native.Mathlib.Omega.{arith}
 use borrow.Author.Needs.{needs}
 use Rattle.sheet.proofs.Accepted.{records-counted, heads-found, records-found}
-use Rattle.sheet.proofs.Marks.{zeros-length, none-marked}
+use Rattle.sheet.proofs.Flags.{zeros-length, none-flagged}
 use Rattle.sheet.proofs.once.check.Statement.{statement}
 use Rattle.sheet.proofs.once.check.Tie as tie
 
--- The marks have room for every record.
+-- The flags have room for every record.
 few : (a : tie.Start) → a .args .h .records ≤ 1024
 few a = omega (arith, a .pre .0 .records, records-counted (a .pre .0))
 
 cast-k : tie.Need-cast-k
 cast-k c = search needs
 
-array-borrow-prefix-marks : tie.Need-array-borrow-prefix-marks
-array-borrow-prefix-marks c = few (c .before .before)
+array-borrow-prefix-flags : tie.Need-array-borrow-prefix-flags
+array-borrow-prefix-flags c = few (c .before .before)
 
 slice-aggregate-reached-once : tie.Need-slice-aggregate-reached-once
 slice-aggregate-reached-once c =
@@ -36,7 +36,7 @@ reached-once-requires c κs =
         heads = heads-found s four;
         nexts = λ r low high. records-found s five r low high .next;
       },
-      none-marked 1024 k (few a),
+      none-flagged 1024 k (few a),
     )
 
 returns : tie.Need-returns
@@ -47,7 +47,7 @@ check-spec =
     tie.close
     (tie.spec
     cast-k
-    array-borrow-prefix-marks
+    array-borrow-prefix-flags
     slice-aggregate-reached-once
     reached-once-requires
     returns)

@@ -1,4 +1,4 @@
--- `sheet::once::reached_once` meets its contract: where the walk refuses, check 6 does; where it passes, the marks are what check 7 asks of.
+-- `sheet::once::reached_once` meets its contract: where the walk refuses, check 6 does; where it passes, the flags are what check 7 asks of.
 use mathlib.Core.Path.{_∙_}
 use borrow.Author.Needs.{needs}
 use Rattle.sheet.proofs.WalkLoops.{walk-refused, walk-passed}

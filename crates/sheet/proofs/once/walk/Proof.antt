@@ -1,5 +1,5 @@
 -- `sheet::once::walk` meets its contract. The loop's invariant: the walk along all chains is what it is from the present condition on,
--- after the records that the marks stand for. The measure is how many conditions are left.
+-- after the records that the flags stand for. The measure is how many conditions are left.
 use Prim.Native.Nat.{ℕ, _+_, _-_, _≤_}
 use mathlib.Core.List.{List}
 use mathlib.Core.Path.{sym, _∙_}
@@ -13,10 +13,10 @@ use Rattle.sheet.proofs.once.walk.Statement.{statement}
 use Rattle.sheet.proofs.once.walk.Tie as tie
 
 abbrev Inv-loop : tie.InvT-loop
-Inv-loop sheet h marks₀ m c₀ marks c = Chaining sheet marks c
+Inv-loop sheet h flags₀ m c₀ flags c = Chaining sheet flags c
 
 abbrev μ-loop : tie.MeasureT-loop
-μ-loop sheet h marks₀ m c₀ marks c = m + 1 - c
+μ-loop sheet h flags₀ m c₀ flags c = m + 1 - c
 
 -- In a turn the condition is one of the sheet's, and its chain's walk is what `walk_chain` says.
 in-range : (c : tie.In-loop Inv-loop μ-loop) → c .before .loop .c ≤ conditionCount (c .before .before .before .before .args .sheet .now)

@@ -1,23 +1,23 @@
--- `sheet::once::walk_chain` meets its contract. The loop's invariant: the walk, whatever its marks stood for at first, is what it is
--- from the present record on, with the present marks. The measure is how many records are not marked: each turn marks one more.
+-- `sheet::once::walk_chain` meets its contract. The loop's invariant: the walk, whatever its flags stood for at first, is what it is
+-- from the present record on, with the present flags. The measure is how many records are not flagged: each turn flags one more.
 use native.Mathlib.Omega.{arith}
 use borrow.Author.Needs.{needs}
 use Rattle.sheet.proofs.Accepted.{conditions-counted, has-record}
-use Rattle.sheet.proofs.Marks.{unmarked}
+use Rattle.sheet.proofs.Flags.{unflagged}
 use Rattle.sheet.proofs.WalkLoops.{Walking, begun, ended, hit, fewer, more}
 use Rattle.sheet.proofs.once.walk_chain.Statement.{statement}
 use Rattle.sheet.proofs.once.walk_chain.Tie as tie
 
 abbrev Inv-loop : tie.InvT-loop
-Inv-loop sheet marks₀ m at₀ marks at = Walking sheet marks₀ (at₀ .0) marks (at .0)
+Inv-loop sheet flags₀ m at₀ flags at = Walking sheet flags₀ (at₀ .0) flags (at .0)
 
 abbrev μ-loop : tie.MeasureT-loop
-μ-loop sheet marks₀ m at₀ marks at = unmarked marks
+μ-loop sheet flags₀ m at₀ flags at = unflagged flags
 
 loop-holds : tie.Need-loop-holds Inv-loop μ-loop
 loop-holds c =
     let a = c .before .before in
-    begun (a .args .sheet .now) (a .args .marks .now) (a .args .head .0) (a .pre .0 .room) (a .pre .1)
+    begun (a .args .sheet .now) (a .args .flags .now) (a .args .head .0) (a .pre .0 .room) (a .pre .1)
 
 sub-i : tie.Need-sub-i Inv-loop μ-loop
 sub-i c = search needs
@@ -39,8 +39,8 @@ returns c =
     let t = c .before .before .before .before in
     hit (t .before .before .loop .inv) (t .if1 .taken) (c .before .if2 .taken)
 
-slice-write-marks : tie.Need-slice-write-marks Inv-loop μ-loop
-slice-write-marks c = search needs
+slice-write-flags : tie.Need-slice-write-flags Inv-loop μ-loop
+slice-write-flags c = search needs
 
 term-at-requires : tie.Need-term-at-requires Inv-loop μ-loop
 term-at-requires c κs =
@@ -49,7 +49,7 @@ term-at-requires c κs =
     let has = a .pre .0 .header in
     rw (conditions-counted has) (has-record has (l .loop .at .0) (omega arith) (l .loop .inv .within))
 
--- The turn that a record which is not marked is in.
+-- The turn that a record which is not flagged is in.
 abbrev turn : tie.Else2 Inv-loop μ-loop → tie.Then1 Inv-loop μ-loop
 turn c = c .before .before .before
 
@@ -86,7 +86,7 @@ walk-chain-spec =
     cast-t13
     same-length
     returns
-    slice-write-marks
+    slice-write-flags
     term-at-requires
     loop-less
     loop-again
