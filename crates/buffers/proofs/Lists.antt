@@ -1,7 +1,6 @@
 -- Laws of what holds of each element of a list.
 use Prim.Native.Nat.{ℕ, zero, suc, _<_}
-use mathlib.Core.List.{List, [], _∷_, _++_, List·Memᴰ, List·Memᴰ·head, List·Memᴰ·tail}
-use mathlib.Core.Path.{refl, sym, subst}
+use mathlib.Core.List.{List, [], _∷_, _++_}
 use native.Mathlib.Omega.{arith}
 use lib.ListN.{length, getD}
 use Rattle.buffers.specs.Lists.{All}
@@ -38,13 +37,3 @@ module _ {A : Type 0} (P : A → Type 0) where
   all-nth [] d h i less = absurd (omega arith)
   all-nth (x ∷ xs) d h zero less = h .0
   all-nth (x ∷ xs) d h (suc i) less = all-nth xs d (h .1) i (omega arith)
-
-  -- By membership, so of all;
-  pub every-all : (xs : List A) → ((x : A) → List·Memᴰ x xs → P x) → All P xs
-  every-all [] h = tt
-  every-all (x ∷ xs) h = (h x (List·Memᴰ·head refl), every-all xs (λ y on. h y (List·Memᴰ·tail on)))
-
-  -- of all, so by membership.
-  pub all-every : (xs : List A) → All P xs → (x : A) → List·Memᴰ x xs → P x
-  all-every (x ∷ xs) h y (List·Memᴰ·head e) = subst P (sym e) (h .0)
-  all-every (x ∷ xs) h y (List·Memᴰ·tail on) = all-every xs (h .1) y on

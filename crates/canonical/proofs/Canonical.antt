@@ -10,9 +10,7 @@ use Rattle.sheet.specs.Inner.{headerAt, HasHeader}
 use Rattle.sheet.specs.Checks.{Accepted}
 use Rattle.sheet.specs.Conditions.{Term, same, apart, conditions}
 use Rattle.sheet.specs.Answers.{answered, readAnswer}
-use Rattle.canonical.specs.Canonical.{termRecord, chainRecords, sheetRecords, headsFrom, canonical, canonicalLength, TermWithin, Within}
-use Rattle.buffers.specs.Lists.{All}
-use Rattle.canonical.proofs.Limits.{within-every}
+use Rattle.canonical.specs.Canonical.{termRecord, chainRecords, sheetRecords, headsFrom, canonical, canonicalLength, Within}
 use Rattle.canonical.proofs.Chains.{Laid, laid-accepted, laid-conditions}
 use Rattle.canonical.proofs.Places.{past, length-heads, length-records, drop-past, laid-at}
 
@@ -54,20 +52,17 @@ module _ (n : ℕ) (tss : List (List Term)) (within : Within n tss) where
       }
 
   -- Its heads and chains are laid one after another.
-  lots : All (All (TermWithin n)) tss
-  lots = within-every (TermWithin n) (λ t h. h) within
-
   records-at : drop (past (canonical n tss) 0) (canonical n tss) ≡ sheetRecords 1 tss
   records-at =
       drop-past (canonical n tss) headerLength (headsFrom 1 tss) (sheetRecords 1 tss) (heads-at n tss)
       (past (canonical n tss) 0) (omega (arith, count-conditions, length-heads 1 tss))
 
   laid : Laid (canonical n tss) 0 0 tss
-  laid = laid-at (canonical n tss) n (within .lots) tss 0 0 (sheetRecords 1 tss) lots (omega arith) (heads-at n tss) records-at
+  laid = laid-at (canonical n tss) n (within .lots) tss 0 0 (sheetRecords 1 tss) (within .terms) (omega arith) (heads-at n tss) records-at
 
   -- It is accepted,
   pub canonical-accepted : Accepted (canonical n tss)
-  canonical-accepted = laid-accepted (canonical n tss) tss count-conditions count-records laid header (rw canonical-lots lots)
+  canonical-accepted = laid-accepted (canonical n tss) tss count-conditions count-records laid header (rw canonical-lots (within .terms))
 
   -- has these conditions,
   pub canonical-conditions : conditions (canonical n tss) ≡ tss

@@ -11,8 +11,8 @@ use borrow.Author.Tests.{eqb-true, eqb-false, ne-eqb, leb-true, leb-false}
 use Rattle.sheet.specs.Format.{lotCount, conditionCount, recordCount, headAt, signAt, spareAt, firstLotAt, secondLotAt, nextAt}
 use Rattle.sheet.specs.Inner.{headerAt, HasHeader}
 use Rattle.sheet.specs.Checks.{Accepted, reached, member, walkChain, walkChains, walked}
-use Rattle.sheet.specs.Conditions.{Term, same, apart, termAt, chain, recordsFrom, termsFrom, countUp, conditionAt, conditions}
-use Rattle.canonical.specs.Canonical.{signOf, firstLot, secondLot, firstRecord, TermWithin}
+use Rattle.sheet.specs.Conditions.{Term, same, apart, termAt, chain, recordsFrom, termsFrom, countUp, conditionAt, conditions, signOf, firstLot, secondLot, TermIn}
+use Rattle.canonical.specs.Canonical.{firstRecord}
 use Rattle.buffers.specs.Lists.{All}
 use Rattle.sheet.proofs.Accepted.{SoundRecord}
 use Rattle.sheet.proofs.Accepting.{accepted}
@@ -93,13 +93,13 @@ module _ (s : List ℕ) where
       ap₂ {C = List Term} _∷_ (term-is (suc p) _ t (runs .0)) (rw (runs .0 .after) (runs-terms ts fuel (suc p) (runs .1) (omega arith)))
 
   -- (a record is in range where its term and its next are)
-  record-sound : (r next : ℕ) (t : Term) → RecordIs s r t next → TermWithin (lotCount s) t → next ≤ recordCount s → SoundRecord s r
+  record-sound : (r next : ℕ) (t : Term) → RecordIs s r t next → TermIn (lotCount s) t → next ≤ recordCount s → SoundRecord s r
   record-sound r next t is lots h =
       record {
         sign = known t (is .sign);
         spare = is .spare;
-        first = rw (is .first) (record { low = lots .0 .0; high = lots .0 .1 });
-        second = rw (is .second) (record { low = lots .1 .0; high = lots .1 .1 });
+        first = rw (is .first) (lots .0);
+        second = rw (is .second) (lots .1);
         next = rw (is .after) h;
       }
     where
@@ -108,7 +108,7 @@ module _ (s : List ℕ) where
       known (apart a b) e = inr e
 
   -- and its records are in range.
-  runs-sound : (ts : List Term) (p : ℕ) → Runs s p ts → All (TermWithin (lotCount s)) ts → p + length ts ≤ recordCount s
+  runs-sound : (ts : List Term) (p : ℕ) → Runs s p ts → All (TermIn (lotCount s)) ts → p + length ts ≤ recordCount s
       → (r : ℕ) → p < r → r ≤ p + length ts → SoundRecord s r
   runs-sound [] p runs lots room r low high = absurd (omega arith)
   runs-sound (t ∷ ts) p runs lots room r low high =
@@ -138,7 +138,7 @@ module _ (s : List ℕ) where
       go false e ih = ih (omega (arith, eqb-false i (suc c) e))
 
   -- the records are in range,
-  laid-records : (tss : List (List Term)) (c p : ℕ) → Laid s c p tss → All (All (TermWithin (lotCount s))) tss → p + length (flatten tss) ≤ recordCount s
+  laid-records : (tss : List (List Term)) (c p : ℕ) → Laid s c p tss → All (All (TermIn (lotCount s))) tss → p + length (flatten tss) ≤ recordCount s
       → (r : ℕ) → p < r → r ≤ p + length (flatten tss) → SoundRecord s r
   unfolding flatten
   laid-records [] c p laid lots room r low high = absurd (omega arith)
@@ -176,7 +176,7 @@ module _ (s : List ℕ) where
 
 module _ (s : List ℕ) (tss : List (List Term)) (m : conditionCount s ≡ length tss) (k : recordCount s ≡ length (flatten tss)) (laid : Laid s 0 0 tss) where
   -- It is accepted, where its header is right and its terms name its lots,
-  pub laid-accepted : HasHeader s (headerAt s) → All (All (TermWithin (lotCount s))) tss → Accepted s
+  pub laid-accepted : HasHeader s (headerAt s) → All (All (TermIn (lotCount s))) tss → Accepted s
   unfolding walked countDown
   laid-accepted header lots =
       let e : recordCount s ≡ 0 + length (flatten tss) = omega arith in

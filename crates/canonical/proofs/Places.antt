@@ -8,8 +8,8 @@ use lib.Seq.{drop-drop, drop-append-seam, getD-drop}
 use Rattle.buffers.specs.Bytes.{number, twoBytes}
 use Rattle.buffers.proofs.Bytes.{two-bytes}
 use Rattle.sheet.specs.Format.{mostLots, mostRecords, headerLength, conditionCount, recordPlace, headAt, signAt, spareAt, firstLotAt, secondLotAt, nextAt}
-use Rattle.sheet.specs.Conditions.{Term}
-use Rattle.canonical.specs.Canonical.{termRecord, firstRecord, chainRecords, sheetRecords, headsFrom, TermWithin}
+use Rattle.sheet.specs.Conditions.{Term, TermIn}
+use Rattle.canonical.specs.Canonical.{termRecord, firstRecord, chainRecords, sheetRecords, headsFrom}
 use Rattle.buffers.specs.Lists.{All}
 use Rattle.canonical.proofs.Chains.{RecordIs, Runs, Laid, first-within, terms-cons}
 
@@ -57,7 +57,7 @@ past s p = headerLength + 2 * conditionCount s + 8 * p
 
 module _ (s : List ℕ) (n : ℕ) (most : n ≤ mostLots) where
   -- A record,
-  record-is : (p next : ℕ) (t : Term) (rest : List ℕ) → TermWithin n t → next ≤ mostRecords → drop (past s p) s ≡ termRecord t next ++ rest
+  record-is : (p next : ℕ) (t : Term) (rest : List ℕ) → TermIn n t → next ≤ mostRecords → drop (past s p) s ≡ termRecord t next ++ rest
       → RecordIs s (suc p) t next
   unfolding signAt spareAt firstLotAt secondLotAt nextAt termRecord twoBytes number
   record-is p next t rest lots room from =
@@ -65,13 +65,13 @@ module _ (s : List ℕ) (n : ℕ) (most : n ≤ mostLots) where
       record {
         sign = byte-from s (past s p) from 0 place (omega arith);
         spare = byte-from s (past s p) from 1 (place + 1) (omega arith);
-        first = number-from s (past s p) from 2 (place + 2) (omega arith) ∙ omega arith;
-        second = number-from s (past s p) from 4 (place + 4) (omega arith) ∙ omega arith;
+        first = number-from s (past s p) from 2 (place + 2) (omega arith) ∙ omega (arith, lots .0 .high);
+        second = number-from s (past s p) from 4 (place + 4) (omega arith) ∙ omega (arith, lots .1 .high);
         after = number-from s (past s p) from 6 (place + 6) (omega arith) ∙ omega arith;
       }
 
   -- a chain,
-  runs-at : (ts : List Term) (p : ℕ) (rest : List ℕ) → All (TermWithin n) ts → p + length ts ≤ mostRecords → drop (past s p) s ≡ chainRecords (suc p) ts ++ rest
+  runs-at : (ts : List Term) (p : ℕ) (rest : List ℕ) → All (TermIn n) ts → p + length ts ≤ mostRecords → drop (past s p) s ≡ chainRecords (suc p) ts ++ rest
       → Runs s p ts
   unfolding chainRecords termRecord twoBytes
   runs-at [] p rest lots room from = tt
@@ -83,7 +83,7 @@ module _ (s : List ℕ) (n : ℕ) (most : n ≤ mostLots) where
       )
 
   -- and all heads and chains.
-  pub laid-at : (tss : List (List Term)) (c p : ℕ) (rest : List ℕ) → All (All (TermWithin n)) tss → p + length (flatten tss) ≤ mostRecords
+  pub laid-at : (tss : List (List Term)) (c p : ℕ) (rest : List ℕ) → All (All (TermIn n)) tss → p + length (flatten tss) ≤ mostRecords
       → drop (headerLength + 2 * c) s ≡ headsFrom (suc p) tss ++ rest → drop (past s p) s ≡ sheetRecords (suc p) tss → Laid s c p tss
   unfolding headsFrom sheetRecords flatten headAt twoBytes
   laid-at [] c p rest lots room heads records = tt

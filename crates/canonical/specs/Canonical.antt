@@ -1,27 +1,14 @@
 -- The canonical sheet of given lots and conditions. Document 02, job 1: "the records of condition 1 first, in chain order, then
 -- condition 2, and so on, each chain running through neighbouring numbers".
 use Prim.Native.Nat.{ℕ, suc, _+_, _≤_}
-use mathlib.Core.List.{List, [], _∷_, _++_, flatten, List·Memᴰ}
+use mathlib.Core.List.{List, [], _∷_, _++_, flatten}
 use lib.ListN.{length}
 use Rattle.buffers.specs.Bytes.{twoBytes}
-use Rattle.sheet.specs.Format.{mostLots, mostConditions, mostRecords, lowestLot, sheetLength}
-use Rattle.sheet.specs.Conditions.{Term, same, apart}
+use Rattle.sheet.specs.Format.{mostLots, mostConditions, mostRecords, sheetLength}
+use Rattle.buffers.specs.Lists.{All}
+use Rattle.sheet.specs.Conditions.{Term, signOf, firstLot, secondLot, TermIn}
 
 -- ---- one record
-
--- "sign (one byte, 1 "same", 2 "apart")"
-abbrev pub signOf : Term → ℕ
-signOf (same a b) = 1
-signOf (apart a b) = 2
-
--- "lot a, lot b"
-abbrev pub firstLot : Term → ℕ
-firstLot (same a b) = a
-firstLot (apart a b) = a
-
-abbrev pub secondLot : Term → ℕ
-secondLot (same a b) = b
-secondLot (apart a b) = b
 
 -- "records of eight bytes: sign .., spare (one byte, 0), lot a, lot b, next (two bytes each)": the record of a term, with its next.
 unfoldable pub termRecord : Term → ℕ → List ℕ
@@ -62,17 +49,9 @@ canonicalLength tss = sheetLength (length tss) (length (flatten tss))
 
 -- ---- what a sheet can say
 
--- A lot of so many lots: they "count from 1".
-abbrev pub LotWithin : ℕ → ℕ → Type 0
-LotWithin n lot = (lowestLot ≤ lot) × (lot ≤ n)
-
--- Both lots of a term are.
-abbrev pub TermWithin : ℕ → Term → Type 0
-TermWithin n t = LotWithin n (firstLot t) × LotWithin n (secondLot t)
-
 -- "lots n (at most 128), conditions m (at most 256), term records k (at most 1,024)", and every term of every condition names lots of the n.
 pub record Within (n : ℕ) (tss : List (List Term)) : Type 0 where
   pub lots : n ≤ mostLots
   pub conditions : length tss ≤ mostConditions
   pub records : length (flatten tss) ≤ mostRecords
-  pub terms : (ts : List Term) → List·Memᴰ ts tss → (t : Term) → List·Memᴰ t ts → TermWithin n t
+  pub terms : All (All (TermIn n)) tss

@@ -4,11 +4,9 @@ use mathlib.Core.Bool.{not}
 use mathlib.Core.List.{List, [], _∷_}
 use mathlib.Core.Path.{_≡_, refl, ap, ap₂}
 use lib.Dec.{eqb}
-use Rattle.sheet.specs.Conditions.{Term, same, apart}
+use Rattle.sheet.specs.Conditions.{Term, same, apart, InLots, TermIn}
 use Rattle.buffers.specs.Lists.{All}
 use Rattle.buffers.proofs.Lists.{all-map}
-use Rattle.sheet.proofs.Accepted.{InLots}
-use Rattle.sheet.proofs.Conditions.{TermIn}
 use Rattle.equality.specs.Meaning.{holds, meetsCondition}
 use Rattle.equality.specs.Evaluator.{lowestUnmet}
 use Rattle.equality.proofs.Some.{some-agree}

@@ -4,11 +4,11 @@ use mathlib.Core.List.{List}
 use native.Mathlib.Omega.{arith}
 use Rattle.sheet.specs.Format.{lotCount}
 use Rattle.sheet.specs.Checks.{Accepted}
-use Rattle.sheet.specs.Conditions.{Term, same, apart, conditions}
+use Rattle.sheet.specs.Conditions.{Term, same, apart, conditions, TermIn}
 use Rattle.buffers.specs.Lists.{All}
 use Rattle.buffers.proofs.Lists.{all-map}
 use Rattle.sheet.proofs.Accepted.{sound}
-use Rattle.sheet.proofs.Conditions.{TermIn, conditions-in}
+use Rattle.sheet.proofs.Conditions.{conditions-in}
 use Rattle.equality.specs.Opens.{Small}
 
 module _ (s : List ℕ) (ok : Accepted s) where

@@ -7,9 +7,9 @@ use native.Mathlib.Omega.{arith}
 use lib.ListN.{length, getD, take, drop, length-take, length-drop, List·getD-append}
 use lib.Seq.{getD-take, getD-drop}
 use Rattle.sheet.specs.Format.{mostLots, lotCount}
-use Rattle.sheet.specs.Conditions.{conditions}
+use Rattle.sheet.specs.Conditions.{conditions, InLots}
 use Rattle.sheet.specs.Checks.{Accepted}
-use Rattle.sheet.proofs.Accepted.{InLots, sound}
+use Rattle.sheet.proofs.Accepted.{sound}
 use Rattle.sheet.proofs.Conditions.{conditions-in}
 use Rattle.equality.specs.Node.{Decisions, classes, smallestLot}
 use Rattle.equality.specs.Search.{isMet, searchTree, metDecisions, groupingBytes}

@@ -13,12 +13,12 @@ use lib.Seq.{getD-append-seam}
 use Rattle.sheet.specs.declared.Verdict.the-variants.{Passes}
 use Rattle.sheet.specs.Format.{mostRecords, lotCount, conditionCount}
 use Rattle.sheet.specs.Checks.{Accepted, orElse, refusesIf, firstRefusal, lotInRange}
+use Rattle.sheet.proofs.Accepted.{lot-in}
 use Rattle.sheet.proofs.Verdicts.{passes-firstRefusal}
 use Rattle.sheet.proofs.Further.{further-accepted}
-use Rattle.sheet.specs.Conditions.{Term, same, apart, conditions}
+use Rattle.sheet.specs.Conditions.{Term, same, apart, conditions, TermIn}
 use Rattle.buffers.specs.Lists.{All}
-use Rattle.sheet.proofs.Accepted.{InLots}
-use Rattle.sheet.proofs.Conditions.{TermIn, conditions-length, conditions-in}
+use Rattle.sheet.proofs.Conditions.{conditions-length, conditions-in}
 use Rattle.equality.specs.Node.{Decisions, value, trueOrOpenApart}
 use Rattle.equality.specs.Search.{nodeRule, Tree, isMet, nodeCount, depth, searchTree}
 use Rattle.equality.proofs.Some.{none-too}
@@ -35,9 +35,6 @@ use Rattle.outcome.specs.Nodes.{records}
 use Rattle.outcome.proofs.Fitting.{bytes-count, node-count, search-fits}
 use Rattle.store.proofs.Codec.{records-of}
 use Rattle.refutation.specs.Refutation.{mostSplits, Split, decisionsOf, notFalse, groundFails, nearest, turned, afterGround, named, conditionInRange, walkFrom, check10, walkVerdict, listVerdict, Refutes}
-
-in-lots : (n lot : ℕ) → InLots n lot → lotInRange n lot ≡ true
-in-lots n lot h = simp (le-leb 1 lot (h .low), le-leb lot n (h .high))
 
 module _ (s : List ℕ) (ok : Accepted s) where
   -- ---- a ground
@@ -67,7 +64,7 @@ module _ (s : List ℕ) (ok : Accepted s) where
   split-lots ds a b at =
       let terms = all-at (All (TermIn (lotCount s))) (at .taken .front) (at .terms) (at .taken .back) (rw (at .taken .place) at (conditions-in s ok)) in
       let pair = all-at (TermIn (lotCount s)) (at .first .before) (same a b) (at .first .after) (rw (at .first .place) at terms) in
-      simp (in-lots (lotCount s) a (pair .0), in-lots (lotCount s) b (pair .1))
+      simp (lot-in (lotCount s) a .1 (pair .0), lot-in (lotCount s) b .1 (pair .1))
 
   -- ---- a whole tree does to the walk what a ground does
 

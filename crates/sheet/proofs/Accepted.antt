@@ -12,13 +12,9 @@ use Rattle.sheet.specs.declared.Header.{Header}
 use Rattle.sheet.specs.declared.Verdict.the-variants.{Passes}
 use Rattle.sheet.specs.Format.{lowestLot, headerLength, lotCount, conditionCount, recordCount, headAt, sameSign, apartSign, signAt, spareAt, firstLotAt, secondLotAt, nextAt}
 use Rattle.sheet.specs.Checks.{orElse, firstRefusal, check2, check3, check4, check5, check6, check7, lotInRange, wellFormed, Walk, reached, twice, member, walked, chainsVerdict, reachedBy, headerChecks, sheetChecks, sheetVerdict, Accepted}
+use Rattle.sheet.specs.Conditions.{InLots}
 use Rattle.sheet.specs.Inner.{headerAt, HasHeader, HasRecord}
 use Rattle.sheet.proofs.Verdicts.{orElse-end, orElse-assoc, orElse-passes, firstRefusal-passes, refusesIf-passes, lowest-passes}
-
--- A lot that a term may name, of so many lots.
-pub record InLots (lots lot : ℕ) : Type 0 where
-  pub low : lowestLot ≤ lot
-  pub high : lot ≤ lots
 
 -- The fields of record r are in range.
 pub record SoundRecord (s : List ℕ) (r : ℕ) : Type 0 where

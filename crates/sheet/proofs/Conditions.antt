@@ -9,10 +9,10 @@ use lib.ListN.{length, getD, drop, length-map, drop-of-length-le}
 use lib.Seq.{drop-cons}
 use Rattle.sheet.specs.Format.{lotCount, conditionCount, recordCount, headAt, signAt, firstLotAt, secondLotAt, nextAt}
 use Rattle.sheet.specs.Checks.{Accepted}
-use Rattle.sheet.specs.Conditions.{Term, same, apart, termAt, chain, recordsFrom, termsFrom, countUp, conditionAt, conditions}
+use Rattle.sheet.specs.Conditions.{same, apart, InLots, TermIn, termAt, chain, recordsFrom, termsFrom, countUp, conditionAt, conditions}
 use Rattle.sheet.proofs.Ranges.{length-along, getD-along, all-along}
 use Rattle.buffers.specs.Lists.{All}
-use Rattle.sheet.proofs.Accepted.{InLots, SoundRecord, sound}
+use Rattle.sheet.proofs.Accepted.{SoundRecord, sound}
 use Rattle.sheet.proofs.Reached.{linked}
 use Rattle.sheet.proofs.Records.{allRecords, records-length}
 
@@ -48,11 +48,6 @@ module _ (s : List ℕ) where
   terms-all = map-flatten (termAt s) (λ c. recordsFrom s (headAt s c)) (countUp (conditionCount s) 1)
 
 -- ---- the terms of an accepted sheet
-
--- Both lots of a term are among so many lots.
-abbrev pub TermIn : ℕ → Term → Type 0
-TermIn lots (same a b) = InLots lots a × InLots lots b
-TermIn lots (apart a b) = InLots lots a × InLots lots b
 
 module _ (s : List ℕ) (ok : Accepted s) where
   -- There are at most k terms.

@@ -1,7 +1,7 @@
 -- The numbers of the checks: every check but that of a full store has a number of at least 1 that is not 9. So 0 tells an answer, and 9 a full store.
 use Prim.Native.Nat.{ℕ, zero, suc, _≤_}
 use mathlib.Core.Bool.{Bool, true, false, not}
-use mathlib.Core.List.{List, [], _∷_}
+use mathlib.Core.List.{List}
 use mathlib.Core.Logic.{_≢_}
 use mathlib.Core.Path.{_≡_}
 use native.Mathlib.Omega.{arith}

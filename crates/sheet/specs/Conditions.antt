@@ -1,9 +1,9 @@
 -- The lots and conditions of an accepted sheet (document 01, "The sheet").
-use Prim.Native.Nat.{ℕ, zero, suc}
+use Prim.Native.Nat.{ℕ, zero, suc, _≤_}
 use mathlib.Core.Bool.{cond}
 use mathlib.Core.List.{List, [], _∷_, map}
 use lib.Dec.{eqb}
-use Rattle.sheet.specs.Format.{conditionCount, recordCount, headAt, sameSign, signAt, firstLotAt, secondLotAt, nextAt}
+use Rattle.sheet.specs.Format.{lowestLot, conditionCount, recordCount, headAt, sameSign, apartSign, signAt, firstLotAt, secondLotAt, nextAt}
 
 -- A term (a literal): "same a b" or "apart a b". "a may equal b."
 pub data Term : Type 0 where
@@ -13,6 +13,28 @@ pub data Term : Type 0 where
 -- "sign (one byte, 1 "same", 2 "apart")"; check 5 admits no other sign.
 abbrev pub termOf : ℕ → ℕ → ℕ → Term
 termOf sign a b = cond (eqb sign sameSign) (same a b) (apart a b)
+
+-- Its sign, and its lots: "lot a, lot b".
+abbrev pub signOf : Term → ℕ
+signOf (same a b) = sameSign
+signOf (apart a b) = apartSign
+
+abbrev pub firstLot : Term → ℕ
+firstLot (same a b) = a
+firstLot (apart a b) = a
+
+abbrev pub secondLot : Term → ℕ
+secondLot (same a b) = b
+secondLot (apart a b) = b
+
+-- A lot that a term may name, of n lots: they "count from 1".
+pub record InLots (n lot : ℕ) : Type 0 where
+  pub low : lowestLot ≤ lot
+  pub high : lot ≤ n
+
+-- Both lots of a term are such.
+abbrev pub TermIn : ℕ → Term → Type 0
+TermIn n t = InLots n (firstLot t) × InLots n (secondLot t)
 
 -- The term of record r.
 abbrev pub termAt : List ℕ → ℕ → Term

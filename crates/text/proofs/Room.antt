@@ -7,9 +7,9 @@ use lib.ListN.{length, getD, drop, length-append}
 use lib.Seq.{drop-nil}
 use Rattle.sheet.specs.Format.{lotCount, conditionCount, recordCount}
 use Rattle.sheet.specs.Checks.{Accepted}
-use Rattle.sheet.specs.Conditions.{conditions}
+use Rattle.sheet.specs.Conditions.{conditions, InLots}
 use Rattle.buffers.specs.Lists.{All}
-use Rattle.sheet.proofs.Accepted.{InLots, sound}
+use Rattle.sheet.proofs.Accepted.{sound}
 use Rattle.equality.specs.Node.{Decisions}
 use Rattle.equality.proofs.Least.{least}
 use Rattle.equality.specs.Search.{nodeCount, searchTree, metDecisions, groupingBytes}
