@@ -35,42 +35,57 @@ cast-a c = search needs
 cast-b : tie.Need-cast-b Inv-loop μ-loop
 cast-b c = search needs
 
--- The classes of a pair's lots are within the table.
-classes-within : (c : tie.After-pair-at Inv-loop μ-loop)
-    → (classOf (c .before .before .before .before .before .before .args .lots .now) (c .pair-at .result .a .0) ≤ mostLots) × (classOf (c .before .before .before .before .before .before .args .lots .now) (c .pair-at .result .b .0) ≤ mostLots)
-classes-within c =
-    let within = c .before .before .before .before .before .before .pre .2 .within in
-    (within _ (c .pair-at .ensures .1 .0), within _ (c .pair-at .ensures .1 .1))
+-- Once a turn's pair is read:
+module _ (c : tie.After-pair-at Inv-loop μ-loop) where
+  abbrev begun : tie.Start Inv-loop μ-loop
+  begun = c .before .before .before .before .before .before
+
+  abbrev tested : tie.At-loop Inv-loop μ-loop
+  tested = c .before .before
+
+  -- the classes of its lots are within the table.
+  classes-within : (classOf (begun .args .lots .now) (c .pair-at .result .a .0) ≤ mostLots) × (classOf (begun .args .lots .now) (c .pair-at .result .b .0) ≤ mostLots)
+  classes-within =
+      let within = begun .pre .2 .within in
+      (within _ (c .pair-at .ensures .1 .0), within _ (c .pair-at .ensures .1 .1))
 
 shared-slice-read-x : tie.Need-shared-slice-read-x Inv-loop μ-loop
-shared-slice-read-x c = omega (arith, c .before .before .before .before .before .pair-at .ensures .1 .0, c .before .before .before .before .before .before .before .before .before .before .before .pre .2 .size)
+shared-slice-read-x c =
+    let read = c .before .before .before .before .before in
+    omega (arith, read .pair-at .ensures .1 .0, begun read .pre .2 .size)
 
 cast-x : tie.Need-cast-x Inv-loop μ-loop
 cast-x c = let h = classes-within (c .before .before .before .before .before) in omega (arith, h .0)
 
 shared-slice-read-y : tie.Need-shared-slice-read-y Inv-loop μ-loop
-shared-slice-read-y c = omega (arith, c .before .before .before .before .before .before .pair-at .ensures .1 .1, c .before .before .before .before .before .before .before .before .before .before .before .before .pre .2 .size)
+shared-slice-read-y c =
+    let read = c .before .before .before .before .before .before in
+    omega (arith, read .pair-at .ensures .1 .1, begun read .pre .2 .size)
+
+-- Where both classes are read.
+abbrev read-at : tie.After-shared-slice-known4 Inv-loop μ-loop → tie.After-pair-at Inv-loop μ-loop
+read-at c = c .before .before .before .before .before .before
 
 cast-y : tie.Need-cast-y Inv-loop μ-loop
-cast-y c = let h = classes-within (c .before .before .before .before .before .before) in omega (arith, h .1)
+cast-y c = let h = classes-within (read-at c) in omega (arith, h .1)
 
 mul-table : tie.Need-mul-table Inv-loop μ-loop
-mul-table c = let h = classes-within (c .before .before .before .before .before .before) in record { fits = omega (arith, h .0, h .1) }
+mul-table c = let h = classes-within (read-at c) in record { fits = omega (arith, h .0, h .1) }
 
 add-table : tie.Need-add-table Inv-loop μ-loop
-add-table c = let h = classes-within (c .before .before .before .before .before .before) in record { fits = omega (arith, h .0, h .1) }
+add-table c = let h = classes-within (read-at c) in record { fits = omega (arith, h .0, h .1) }
 
 slice-write-table : tie.Need-slice-write-table Inv-loop μ-loop
-slice-write-table c = let h = classes-within (c .before .before .before .before .before .before) in omega (arith, h .0, h .1, c .before .before .before .before .before .before .before .before .loop .inv .1)
+slice-write-table c = let h = classes-within (read-at c) in omega (arith, h .0, h .1, tested (read-at c) .loop .inv .1)
 
 mul-table-2 : tie.Need-mul-table-2 Inv-loop μ-loop
-mul-table-2 c = let h = classes-within (c .before .before .before .before .before .before) in record { fits = omega (arith, h .0, h .1) }
+mul-table-2 c = let h = classes-within (read-at c) in record { fits = omega (arith, h .0, h .1) }
 
 add-table-2 : tie.Need-add-table-2 Inv-loop μ-loop
-add-table-2 c = let h = classes-within (c .before .before .before .before .before .before) in record { fits = omega (arith, h .0, h .1) }
+add-table-2 c = let h = classes-within (read-at c) in record { fits = omega (arith, h .0, h .1) }
 
 slice-write-table-2 : tie.Need-slice-write-table-2 Inv-loop μ-loop
-slice-write-table-2 c = let h = classes-within (c .before .before .before .before .before .before) in simp length-set (omega (arith, h .0, h .1, c .before .before .before .before .before .before .before .before .loop .inv .1))
+slice-write-table-2 c = let h = classes-within (read-at c) in simp length-set (omega (arith, h .0, h .1, tested (read-at c) .loop .inv .1))
 
 add-i : tie.Need-add-i Inv-loop μ-loop
 add-i c = search needs
@@ -79,10 +94,12 @@ loop-less : tie.Need-loop-less Inv-loop μ-loop
 loop-less c = search needs
 
 loop-again : tie.Need-loop-again Inv-loop μ-loop
-loop-again c = let h = c .before .before .before .before in
+loop-again c =
+    let read = c .before .before in
+    let pair = read .pair-at in
+    let h = tested read in
     let inv = h .loop .inv in
-    let pair = c .before .before .pair-at in
-    let start = c .before .before .before .before .before .before .before .before in
+    let start = begun read in
     let lots = start .args .lots .now in
     let path = start .args .path .now in (
       omega arith,

@@ -52,15 +52,18 @@ returns c =
       (simp (eq-eqb _ _ one), (sym (ap (λ (k : ℕ). merged (classOf map (start .args .a .0)) k map) (sym one) ∙ merged-self _ map), (λ k le. refl))),
     )
 
-two : (c : tie.Else1)
-    → eqb (classOf (row (c .before .before .before .before .before .before .args .maps .now) (c .before .before .before .before .before .before .args .level)) (c .before .before .before .before .before .before .args .a .0)) (classOf (row (c .before .before .before .before .before .before .args .maps .now) (c .before .before .before .before .before .before .args .level)) (c .before .before .before .before .before .before .args .b .0)) ≡ false
-two c =
-    let start = c .before .before .before .before .before .before in
-    ne-eqb _ _ (λ e. c .if1 .left (sym (first-at start) ∙ e ∙ second-at start))
+-- Where they are two:
+module _ (c : tie.Else1) where
+  abbrev begun : tie.Start
+  begun = c .before .before .before .before .before .before
+
+  two : eqb (classOf (row (begun .args .maps .now) (begun .args .level)) (begun .args .a .0)) (classOf (row (begun .args .maps .now) (begun .args .level)) (begun .args .b .0)) ≡ false
+  two = ne-eqb _ _ (λ e. c .if1 .left (sym (first-at begun) ∙ e ∙ second-at begun))
 
 join-row-requires : tie.Need-join-row-requires
-join-row-requires c κs = let start = c .before .before .before .before .before .before .before in
-    (start .pre .0, start .pre .4 (two (c .before)))
+join-row-requires c κs =
+    let else = c .before in
+    (begun else .pre .0, begun else .pre .4 (two else))
 
 add-result : tie.Need-add-result
 add-result c = search needs
@@ -70,11 +73,12 @@ same-length c = search needs
 
 returns-2 : tie.Need-returns-2
 returns-2 c =
-    let start = c .before .before .before .before .before .before .before .before .before .before in
     let next = c .before .before .join-row in
+    let else = c .before .before .before .before in
+    let start = begun else in
     let map = row (start .args .maps .now) (start .args .level) in (
-      omega (arith, start .pre .4 (two (c .before .before .before .before))),
-      (simp (two (c .before .before .before .before)), (next .ensures .0 ∙ (λ i. merged (sym (first-at start) i) (sym (second-at start) i) map), next .ensures .1)),
+      omega (arith, start .pre .4 (two else)),
+      (simp (two else), (next .ensures .0 ∙ (λ i. merged (sym (first-at start) i) (sym (second-at start) i) map), next .ensures .1)),
     )
 
 pub join-spec : {M : Type 1} → statement M
