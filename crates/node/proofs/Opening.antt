@@ -13,13 +13,14 @@ use Rattle.sheet.specs.Conditions.{Term, same, apart, termOf, termAt, termsFrom
 use Rattle.sheet.proofs.Ranges.{All}
 use Rattle.sheet.proofs.Accepted.{sound}
 use Rattle.sheet.proofs.ChainEnds.{terms-end, terms-step}
+use Rattle.equality.specs.Meaning.{anyTerm}
 use Rattle.equality.specs.Node.{Decisions, classOf, marked, markedApart, Value, isFalse, isOpen, value, trueOrOpenApart, passedOver, ground, split, openOr, groundOrSplit}
 use Rattle.equality.proofs.Small.{all-map}
 use Rattle.equality.proofs.Some.{any-false, any-none, some-none}
 use Rattle.equality.proofs.Node.{openSame, settled-by-classes, unsettled-value, passed-by}
 use Rattle.equality.proofs.Steps.{closedTerm, open-not-closed, not-closed-open, apart-closed, apart-closes}
 use Rattle.classes.specs.Pairs.{setApart}
-use Rattle.node.specs.Resume.{NonePasses, PassesTo}
+use Rattle.node.specs.Place.{PassesTo}
 
 -- ---- parts of a condition
 
@@ -34,6 +35,10 @@ all-second P (x ∷ xs) ys h = all-second P xs ys (h .1)
 pub all-both : {A : Type 0} (P : A → Type 0) (xs ys : List A) → All P xs → All P ys → All P (xs ++ ys)
 all-both P [] ys h k = k
 all-both P (x ∷ xs) ys h k = (h .0, all-both P xs ys (h .1) k)
+
+-- None of these terms is true or an open "apart" term. They may be what is left of a condition's chain, so the condition is not spoken of (`passedOver`).
+abbrev pub NonePasses : Decisions → List Term → Type 0
+NonePasses ds ts = anyTerm (λ t. trueOrOpenApart t (value ds t)) ts ≡ false
 
 -- Where a condition is not passed over, none of its last terms is true or an open "apart" term.
 pub rest-passes-none : (ds : Decisions) (before after : List Term) → passedOver ds (before ++ after) ≡ false → NonePasses ds after
