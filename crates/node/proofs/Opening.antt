@@ -13,6 +13,7 @@ use Rattle.sheet.specs.Conditions.{Term, same, apart, termOf, termAt, termsFrom
 use Rattle.buffers.specs.Lists.{All}
 use Rattle.sheet.proofs.Accepted.{sound}
 use Rattle.sheet.proofs.ChainEnds.{terms-end, terms-step}
+use Rattle.equality.specs.Meaning.{anyTerm}
 use Rattle.equality.specs.Node.{Decisions, classOf, marked, markedApart, Value, isFalse, isOpen, value, trueOrOpenApart, passedOver, ground, split, openOr, groundOrSplit}
 use Rattle.buffers.proofs.Lists.{all-map, all-first, all-second, all-both}
 use Rattle.equality.proofs.Some.{any-false, any-none, some-none}
@@ -20,9 +21,13 @@ use Rattle.equality.proofs.Node.{openSame, settled-by-classes, unsettled-value,
 use Rattle.equality.specs.Opens.{closedTerm}
 use Rattle.equality.proofs.Steps.{open-not-closed, not-closed-open, apart-closed, apart-closes}
 use Rattle.classes.specs.Pairs.{setApart}
-use Rattle.node.specs.Resume.{NonePasses, PassesTo}
+use Rattle.node.specs.Place.{PassesTo}
 
 -- ---- parts of a condition
+
+-- None of these terms is true or an open "apart" term. They may be what is left of a condition's chain, so the condition is not spoken of (`passedOver`).
+abbrev pub NonePasses : Decisions → List Term → Type 0
+NonePasses ds ts = anyTerm (λ t. trueOrOpenApart t (value ds t)) ts ≡ false
 
 -- Where a condition is not passed over, none of its last terms is true or an open "apart" term.
 pub rest-passes-none : (ds : Decisions) (before after : List Term) → passedOver ds (before ++ after) ≡ false → NonePasses ds after

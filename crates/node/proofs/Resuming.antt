@@ -7,9 +7,9 @@ use Rattle.sheet.specs.Conditions.{Term, apart, termsFrom, conditionAt, conditi
 use Rattle.equality.specs.Node.{Decisions, noCondition, takes, taken, met, groundOrSplit, nodeOf, node}
 use Rattle.equality.proofs.Node.{taken-apart, passed-by}
 use Rattle.equality.proofs.Rule.{taken-at, no-open}
-use Rattle.node.specs.Resume.{NonePasses, PassesTo, ResumesWithin}
+use Rattle.node.specs.Place.{PassesTo, ResumesWithin}
 use Rattle.buffers.proofs.Lists.{all-both}
-use Rattle.node.proofs.Opening.{rest-passes-none, NoneOpen, none-ground, none-later}
+use Rattle.node.proofs.Opening.{NonePasses, rest-passes-none, NoneOpen, none-ground, none-later}
 
 -- ---- after the scan
 
@@ -19,10 +19,11 @@ unfolding node
 none-met ds s e = rw e
 
 -- the condition taken is gone on within from its head on.
-pub head-resumes : (ds : Decisions) (s : List ℕ) (c : ℕ) → headAt s c ≤ recordCount s → taken ds 1 (conditions s) ≡ takes c (conditionAt s c)
-    → ResumesWithin s c (headAt s c) ds
+pub head-resumes : (ds : Decisions) (s : List ℕ) (c head : ℕ) → head ≡ headAt s c → head ≤ recordCount s → taken ds 1 (conditions s) ≡ takes c (conditionAt s c)
+    → ResumesWithin s c head ds
 unfolding groundOrSplit
-head-resumes ds s c h e = record { condition = e; passes = record { within = h; passed = []; place = refl; closed = λ d. refl } }
+head-resumes ds s c head e h t =
+    record { condition = t; passes = record { within = h; passed = []; place = ap (termsFrom s) (sym e); closed = λ d. refl } }
 
 -- ---- from a record on
 

@@ -1,5 +1,5 @@
 -- Conditions that are settled stay so: the scan may leave them out. A join leaves lots that share a class in one, and a pair set apart changes no class.
--- The marks say which are settled, and at which level of the path they were seen to be.
+-- Its level says that a condition is settled, and at which level of the path it was seen to be.
 use Prim.Native.Nat.{ℕ, zero, suc, _+_, _-_, _≤_, _<_, min}
 use mathlib.Core.Bool.{Bool, true, false, cond, _||_, or-true, false≢true, Bool·beq}
 use mathlib.Core.List.{List, [], _∷_, _++_}
@@ -10,21 +10,20 @@ use borrow.Author.Tests.{eqb-true, eqb-false, eq-eqb, lt-ltb, le-ltb}
 use lib.Dec.{eqb, ltb}
 use lib.ListN.{length, getD, set, length-set, length-append}
 use lib.Seq.{getD-set-same, getD-set-other}
-use Rattle.sheet.specs.Format.{conditionCount, recordCount, nextAt}
+use Rattle.sheet.specs.Format.{conditionCount, nextAt}
 use Rattle.sheet.specs.Checks.{Accepted}
 use Rattle.sheet.specs.Conditions.{Term, same, apart, termOf, termAt, termsFrom, conditionAt, conditions}
-use Rattle.buffers.specs.Lists.{All}
 use Rattle.sheet.proofs.Conditions.{conditions-length}
 use Rattle.sheet.proofs.ChainEnds.{terms-step}
 use Rattle.equality.specs.Meaning.{holds, anyTerm, someTerm, meetsCondition}
-use Rattle.equality.specs.Node.{Decisions, merged, classOf, classes, takes, taken, split, groundOrSplit, nodeOf, node}
+use Rattle.equality.specs.Node.{Decisions, merged, classOf, classes, takes, taken, split, nodeOf, node}
 use Rattle.buffers.proofs.Lists.{all-map}
 use Rattle.equality.proofs.Some.{any-false, any-none, any-here}
 use Rattle.equality.proofs.Node.{taken-values, passed-by-classes}
 use Rattle.equality.proofs.Rule.{taken-at, OpenAt, open-at}
 use Rattle.equality.proofs.Classes.{joinedTo}
 use Rattle.equality.proofs.Passing.{Passing}
-use Rattle.node.specs.Settled.{sharing, settledBy, Marked, Later, ClearedAbove}
+use Rattle.node.specs.Settled.{sharing, settledBy, Settled, Later, ClearedAbove}
 
 -- Where one test is passed another is: so by some of these terms.
 module _ (p q : Term → Bool) (also : (t : Term) → p t ≡ true → q t ≡ true) where
@@ -134,77 +133,77 @@ taken-number ds s c ts e =
     let long : length (conditions s) ≡ length (at .front) + length (ts ∷ at .back) = ap length (at .place) ∙ length-append (at .front) (ts ∷ at .back) in
     (omega (arith, at .number), omega (arith, at .number, long, conditions-length s))
 
--- ---- later marks
+-- ---- later levels
 
-pub later-none : (marks : List ℕ) (level : ℕ) → Later marks marks level
-later-none marks level = record { sized = refl; each = λ i. inl refl }
+pub later-none : (levels : List ℕ) (level : ℕ) → Later levels levels level
+later-none levels level = record { sized = refl; each = λ i. inl refl }
 
-pub later-through : (marks marks′ marks″ : List ℕ) (level : ℕ) → Later marks marks′ level → Later marks′ marks″ level → Later marks marks″ level
-later-through marks marks′ marks″ level one two = record { sized = two .sized ∙ one .sized; each = λ i. go i (one .each i) (two .each i) }
+pub later-through : (levels levels′ levels″ : List ℕ) (level : ℕ) → Later levels levels′ level → Later levels′ levels″ level → Later levels levels″ level
+later-through levels levels′ levels″ level one two = record { sized = two .sized ∙ one .sized; each = λ i. go i (one .each i) (two .each i) }
   where
-    go : (i : ℕ) → (getD marks′ i 0 ≡ getD marks i 0) ⊎ ((getD marks i 0 ≡ 0) × (level ≤ getD marks′ i 0))
-        → (getD marks″ i 0 ≡ getD marks′ i 0) ⊎ ((getD marks′ i 0 ≡ 0) × (level ≤ getD marks″ i 0))
-        → (getD marks″ i 0 ≡ getD marks i 0) ⊎ ((getD marks i 0 ≡ 0) × (level ≤ getD marks″ i 0))
+    go : (i : ℕ) → (getD levels′ i 0 ≡ getD levels i 0) ⊎ ((getD levels i 0 ≡ 0) × (level ≤ getD levels′ i 0))
+        → (getD levels″ i 0 ≡ getD levels′ i 0) ⊎ ((getD levels′ i 0 ≡ 0) × (level ≤ getD levels″ i 0))
+        → (getD levels″ i 0 ≡ getD levels i 0) ⊎ ((getD levels i 0 ≡ 0) × (level ≤ getD levels″ i 0))
     go i (inl e) (inl f) = inl (f ∙ e)
     go i (inl e) (inr f) = inr (sym e ∙ f .0, f .1)
     go i (inr e) (inl f) = inr (e .0, omega (arith, e .1, f))
     go i (inr e) (inr f) = inr (e .0, f .1)
 
 -- What is of a later level is later than this one.
-pub later-above : (marks marks′ : List ℕ) (level : ℕ) → Later marks marks′ (level + 1) → Later marks marks′ level
-later-above marks marks′ level l = record { sized = l .sized; each = λ i. go i (l .each i) }
+pub later-above : (levels levels′ : List ℕ) (level : ℕ) → Later levels levels′ (level + 1) → Later levels levels′ level
+later-above levels levels′ level l = record { sized = l .sized; each = λ i. go i (l .each i) }
   where
-    go : (i : ℕ) → (getD marks′ i 0 ≡ getD marks i 0) ⊎ ((getD marks i 0 ≡ 0) × (level + 1 ≤ getD marks′ i 0))
-        → (getD marks′ i 0 ≡ getD marks i 0) ⊎ ((getD marks i 0 ≡ 0) × (level ≤ getD marks′ i 0))
+    go : (i : ℕ) → (getD levels′ i 0 ≡ getD levels i 0) ⊎ ((getD levels i 0 ≡ 0) × (level + 1 ≤ getD levels′ i 0))
+        → (getD levels′ i 0 ≡ getD levels i 0) ⊎ ((getD levels i 0 ≡ 0) × (level ≤ getD levels′ i 0))
     go i (inl e) = inl e
     go i (inr e) = inr (e .0, omega (arith, e .1))
 
--- ---- one mark more
+-- ---- one level more
 
-module _ (marks : List ℕ) (i level : ℕ) (h : i < length marks) where
-  by-place : (P : ℕ → ℕ → Type 0) → P i level → ((j : ℕ) → j ≢ i → P j (getD marks j 0)) → (j : ℕ) → P j (getD (set marks i level) j 0)
+module _ (levels : List ℕ) (i level : ℕ) (h : i < length levels) where
+  by-place : (P : ℕ → ℕ → Type 0) → P i level → ((j : ℕ) → j ≢ i → P j (getD levels j 0)) → (j : ℕ) → P j (getD (set levels i level) j 0)
   by-place P here others j = go (eqb j i) refl
     where
-      go : (b : Bool) → eqb j i ≡ b → P j (getD (set marks i level) j 0)
+      go : (b : Bool) → eqb j i ≡ b → P j (getD (set levels i level) j 0)
       go true e =
           let same-place : j ≡ i = eqb-true j i e in
-          rw same-place (rw (getD-set-same marks i level 0 h) here)
-      go false e = rw (getD-set-other marks i j level 0 (eqb-false j i e)) (others j (eqb-false j i e))
+          rw same-place (rw (getD-set-same levels i level 0 h) here)
+      go false e = rw (getD-set-other levels i j level 0 (eqb-false j i e)) (others j (eqb-false j i e))
 
   -- where there was none it is a later one,
-  pub later-settle : getD marks i 0 ≡ 0 → Later marks (set marks i level) level
+  pub later-settle : getD levels i 0 ≡ 0 → Later levels (set levels i level) level
   later-settle none =
       record {
-        sized = length-set marks i level;
+        sized = length-set levels i level;
         each =
-            by-place (λ j v. (v ≡ getD marks j 0) ⊎ ((getD marks j 0 ≡ 0) × (level ≤ v)))
+            by-place (λ j v. (v ≡ getD levels j 0) ⊎ ((getD levels j 0 ≡ 0) × (level ≤ v)))
             (inr (none, omega arith)) (λ j other. inl refl);
       }
 
   -- and it may be written where the condition is settled.
-  pub marked-settle : (cs s : List ℕ) → Marked cs s marks level → settledBy cs (conditionAt s (suc i)) ≡ true → Marked cs s (set marks i level) level
-  marked-settle cs s l e =
+  pub settled-here : (cs s : List ℕ) → Settled cs s levels level → settledBy cs (conditionAt s (suc i)) ≡ true → Settled cs s (set levels i level) level
+  settled-here cs s l e =
       record {
         low = l .low;
-        sized = omega (arith, length-set marks i level, l .sized);
+        sized = omega (arith, length-set levels i level, l .sized);
         high = by-place (λ j v. v ≤ level) (omega arith) (λ j other. l .high j);
         each = by-place (λ j v. v ≢ 0 → settledBy cs (conditionAt s (suc j)) ≡ true) (λ n. e) (λ j other. l .each j);
       }
 
 -- So by a loop that writes it.
-pub settled-next : (cs s marks₀ marks marks′ : List ℕ) (level i : ℕ) → marks′ ≡ marks → i < length marks → getD marks i 0 ≡ 0 → settledBy cs (conditionAt s (suc i)) ≡ true
-    → Marked cs s marks level → Later marks₀ marks level → Marked cs s (set marks′ i level) level × Later marks₀ (set marks′ i level) level
-settled-next cs s marks₀ marks marks′ level i e h none settled l later =
-    rw e (marked-settle marks i level h cs s l settled, later-through marks₀ marks (set marks i level) level later (later-settle marks i level h none))
+pub settled-next : (cs s levels₀ levels levels′ : List ℕ) (level i : ℕ) → levels′ ≡ levels → i < length levels → getD levels i 0 ≡ 0 → settledBy cs (conditionAt s (suc i)) ≡ true
+    → Settled cs s levels level → Later levels₀ levels level → Settled cs s (set levels′ i level) level × Later levels₀ (set levels′ i level) level
+settled-next cs s levels₀ levels levels′ level i e h none settled l later =
+    rw e (settled-here levels i level h cs s l settled, later-through levels₀ levels (set levels i level) level later (later-settle levels i level h none))
 
 -- ---- the two branches of a split
 
--- No condition that is taken is marked: it is not met.
-taken-unmarked : (ds : Decisions) (s marks : List ℕ) (level i : ℕ) → Marked (classes ds) s marks level → taken ds 1 (conditions s) ≡ takes (suc i) (conditionAt s (suc i))
-    → getD marks i 0 ≡ 0
-taken-unmarked ds s marks level i l t = go (eqb (getD marks i 0) 0) refl
+-- No condition that is taken has a level: it is not met.
+taken-unsettled : (ds : Decisions) (s levels : List ℕ) (level i : ℕ) → Settled (classes ds) s levels level → taken ds 1 (conditions s) ≡ takes (suc i) (conditionAt s (suc i))
+    → getD levels i 0 ≡ 0
+taken-unsettled ds s levels level i l t = go (eqb (getD levels i 0) 0) refl
   where
-    go : (b : Bool) → eqb (getD marks i 0) 0 ≡ b → getD marks i 0 ≡ 0
+    go : (b : Bool) → eqb (getD levels i 0) 0 ≡ b → getD levels i 0 ≡ 0
     go true e = eqb-true _ _ e
     go false e =
         absurd
@@ -213,17 +212,17 @@ taken-unmarked ds s marks level i l t = go (eqb (getD marks i 0) 0) refl
         ∙ passed-by-classes ds (conditionAt s (suc i))
         ∙ settled-met (classes ds) (conditionAt s (suc i)) (l .each i (eqb-false _ _ e))))
 
--- In the same branch, of the next level, what was settled is, and the condition taken is marked too.
-module _ (ds : Decisions) (s marks : List ℕ) (c a b level : ℕ) (l : Marked (classes ds) s marks level)
+-- In the same branch, of the next level, what was settled is, and so is the condition taken.
+module _ (ds : Decisions) (s levels : List ℕ) (c a b level : ℕ) (l : Settled (classes ds) s levels level)
     (e : node ds (conditions s) ≡ split a b) (t : taken ds 1 (conditions s) ≡ takes c (conditionAt s c)) where
   number : suc (c - 1) ≡ c
   number = omega (arith, taken-number ds s c (conditionAt s c) t)
 
-  place : c - 1 < length marks
+  place : c - 1 < length levels
   place = omega (arith, taken-number ds s c (conditionAt s c) t, l .sized)
 
-  joined-marked : Marked (merged (classOf (classes ds) a) (classOf (classes ds) b) (classes ds)) s marks (level + 1)
-  joined-marked =
+  joined-settled : Settled (merged (classOf (classes ds) a) (classOf (classes ds) b) (classes ds)) s levels (level + 1)
+  joined-settled =
       record {
         low = omega arith;
         sized = l .sized;
@@ -231,26 +230,26 @@ module _ (ds : Decisions) (s marks : List ℕ) (c a b level : ℕ) (l : Marked (
         each = λ i n. settled-joined _ _ (classes ds) (conditionAt s (suc i)) (l .each i n);
       }
 
-  pub same-marked : Marked (merged (classOf (classes ds) a) (classOf (classes ds) b) (classes ds)) s (set marks (c - 1) (level + 1)) (level + 1)
-  same-marked =
-      marked-settle marks (c - 1) (level + 1) place (merged (classOf (classes ds) a) (classOf (classes ds) b) (classes ds)) s joined-marked
+  pub same-settled : Settled (merged (classOf (classes ds) a) (classOf (classes ds) b) (classes ds)) s (set levels (c - 1) (level + 1)) (level + 1)
+  same-settled =
+      settled-here levels (c - 1) (level + 1) place (merged (classOf (classes ds) a) (classOf (classes ds) b) (classes ds)) s joined-settled
       (rw number (split-settles ds s c a b e t))
 
-  pub same-later : Later marks (set marks (c - 1) (level + 1)) (level + 1)
-  same-later = later-settle marks (c - 1) (level + 1) place (taken-unmarked ds s marks level (c - 1) l (rw number t))
+  pub same-later : Later levels (set levels (c - 1) (level + 1)) (level + 1)
+  same-later = later-settle levels (c - 1) (level + 1) place (taken-unsettled ds s levels level (c - 1) l (rw number t))
 
--- Before the apart branch the marks above the level are taken back: each is what it was.
-module _ (cs s marks marks′ marks″ : List ℕ) (level : ℕ) (l : Marked cs s marks level) (over : Later marks marks′ (level + 1)) (cleared : ClearedAbove marks′ marks″ level) where
-  restored : (i : ℕ) → getD marks″ i 0 ≡ getD marks i 0
+-- Before the apart branch the levels above this one are forgotten: each is what it was.
+module _ (cs s levels levels′ levels″ : List ℕ) (level : ℕ) (l : Settled cs s levels level) (over : Later levels levels′ (level + 1)) (cleared : ClearedAbove levels′ levels″ level) where
+  restored : (i : ℕ) → getD levels″ i 0 ≡ getD levels i 0
   restored i = cleared .each i ∙ go (over .each i)
     where
-      go : (getD marks′ i 0 ≡ getD marks i 0) ⊎ ((getD marks i 0 ≡ 0) × (level + 1 ≤ getD marks′ i 0))
-          → cond (ltb level (getD marks′ i 0)) 0 (getD marks′ i 0) ≡ getD marks i 0
-      go (inl e) = rw e (rw (le-ltb level (getD marks i 0) (l .high i)) refl)
-      go (inr e) = rw (lt-ltb level (getD marks′ i 0) (omega (arith, e .1))) (sym (e .0))
+      go : (getD levels′ i 0 ≡ getD levels i 0) ⊎ ((getD levels i 0 ≡ 0) × (level + 1 ≤ getD levels′ i 0))
+          → cond (ltb level (getD levels′ i 0)) 0 (getD levels′ i 0) ≡ getD levels i 0
+      go (inl e) = rw e (rw (le-ltb level (getD levels i 0) (l .high i)) refl)
+      go (inr e) = rw (lt-ltb level (getD levels′ i 0) (omega (arith, e .1))) (sym (e .0))
 
-  pub restored-marked : Marked cs s marks″ level
-  restored-marked =
+  pub restored-settled : Settled cs s levels″ level
+  restored-settled =
       record {
         low = l .low;
         sized = omega (arith, cleared .sized, over .sized, l .sized);
@@ -258,5 +257,5 @@ module _ (cs s marks marks′ marks″ : List ℕ) (level : ℕ) (l : Marked cs 
         each = λ i n. l .each i (λ none. n (restored i ∙ none));
       }
 
-  pub restored-later : Later marks marks″ level
+  pub restored-later : Later levels levels″ level
   restored-later = record { sized = cleared .sized ∙ over .sized; each = λ i. inl (restored i) }

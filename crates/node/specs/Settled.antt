@@ -20,19 +20,20 @@ sharing cs (apart a b) = false
 abbrev pub settledBy : List ℕ → List Term → Bool
 settledBy cs ts = anyTerm (sharing cs) ts
 
--- The marks of a path, one a condition and maybe more after them: 0, or the level at which the condition was seen to be settled, which is none above this one.
-pub record Marked (cs s marks : List ℕ) (level : ℕ) : Type 0 where
+-- The settled levels of a path, one a condition and maybe more after them: 0, or the level at which the condition was seen to be settled, which is none above
+-- this one.
+pub record Settled (cs s levels : List ℕ) (level : ℕ) : Type 0 where
   pub low : 1 ≤ level
-  pub sized : conditionCount s ≤ length marks
-  pub high : (i : ℕ) → getD marks i 0 ≤ level
-  pub each : (i : ℕ) → getD marks i 0 ≢ 0 → settledBy cs (conditionAt s (suc i)) ≡ true
+  pub sized : conditionCount s ≤ length levels
+  pub high : (i : ℕ) → getD levels i 0 ≤ level
+  pub each : (i : ℕ) → getD levels i 0 ≢ 0 → settledBy cs (conditionAt s (suc i)) ≡ true
 
--- Marks were written where there was none, of this level or of later ones.
-pub record Later (marks marks′ : List ℕ) (level : ℕ) : Type 0 where
-  pub sized : length marks′ ≡ length marks
-  pub each : (i : ℕ) → (getD marks′ i 0 ≡ getD marks i 0) ⊎ ((getD marks i 0 ≡ 0) × (level ≤ getD marks′ i 0))
+-- Levels were written where there was none: this one or later ones.
+pub record Later (levels levels′ : List ℕ) (level : ℕ) : Type 0 where
+  pub sized : length levels′ ≡ length levels
+  pub each : (i : ℕ) → (getD levels′ i 0 ≡ getD levels i 0) ⊎ ((getD levels i 0 ≡ 0) × (level ≤ getD levels′ i 0))
 
--- The marks above a level are taken back.
-pub record ClearedAbove (marks marks′ : List ℕ) (level : ℕ) : Type 0 where
-  pub sized : length marks′ ≡ length marks
-  pub each : (i : ℕ) → getD marks′ i 0 ≡ cond (ltb level (getD marks i 0)) 0 (getD marks i 0)
+-- The levels above one are forgotten.
+pub record ClearedAbove (levels levels′ : List ℕ) (level : ℕ) : Type 0 where
+  pub sized : length levels′ ≡ length levels
+  pub each : (i : ℕ) → getD levels′ i 0 ≡ cond (ltb level (getD levels i 0)) 0 (getD levels i 0)

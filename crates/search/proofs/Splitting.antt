@@ -1,11 +1,11 @@
 -- The visit of a split, by how its same branch ended.
 use Prim.Native.Nat.{ℕ, _+_, _*_, _≤_}
-use mathlib.Core.Bool.{true, false, false≢true}
+use mathlib.Core.Bool.{false≢true}
 use mathlib.Core.List.{List, _∷_}
-use mathlib.Core.Path.{_≡_, sym, _∙_}
+use mathlib.Core.Path.{_≡_, refl, sym, _∙_}
 use native.Mathlib.Omega.{arith}
 use lib.Seq.{sets}
-use Rattle.sheet.specs.Conditions.{Term, same, apart}
+use Rattle.sheet.specs.Conditions.{same, apart}
 use Rattle.equality.specs.Node.{Decisions, Node}
 use Rattle.equality.specs.Search.{Tree, oneBranch, twoBranches, nodeCount}
 use Rattle.equality.specs.Visits.{Visits}
@@ -20,8 +20,8 @@ use Rattle.search.proofs.Exploring.{same-met, same-full, Turned, same-c
 module _ {rule : Decisions → Node} {ds : Decisions} {a b : ℕ} {tree : Tree} (v : SplitTree rule ds a b tree)
     (before : ℕ) (store store₁ store₂ grouping grouping₂ : List ℕ) (written : store₁ ≡ sets store (recordLength * before) (encode (splitRecord a b 0)))
     (r : Visited) (told : (t : Tree) → Visits rule (same a b ∷ ds) t → Explored (before + 1) store₁ store₂ grouping grouping₂ r t) where
-  -- It met something;
-  pub split-met : (n : ℕ) → r ≡ Met n → Explored before store store₂ grouping grouping₂ (Met n) tree
+  -- It met something,
+  split-met : (n : ℕ) → r ≡ Met n → Explored before store store₂ grouping grouping₂ (Met n) tree
   split-met n q = go v
     where
       met : (t : Tree) → Visits rule (same a b ∷ ds) t → Explored (before + 1) store₁ store₂ grouping grouping₂ (Met n) t
@@ -32,8 +32,8 @@ module _ {rule : Decisions → Node} {ds : Decisions} {a b : ℕ} {tree : Tree} 
       go (two {t} {u} w m x) =
           absurd (false≢true (sym m ∙ same-met before store store₁ store₂ grouping grouping₂ a b t written n (met t w) .0))
 
-  -- it found the store full;
-  pub split-full : r ≡ Full → Explored before store store₂ grouping grouping₂ Full tree
+  -- or it found the store full:
+  split-full : r ≡ Full → Explored before store store₂ grouping grouping₂ Full tree
   unfolding nodeCount
   split-full q = go v
     where
@@ -43,6 +43,15 @@ module _ {rule : Decisions → Node} {ds : Decisions} {a b : ℕ} {tree : Tree} 
       go : {u : Tree} → SplitTree rule ds a b u → Explored before store store₂ grouping grouping₂ Full u
       go (one {t} w m) = same-full before store store₁ store₂ grouping grouping₂ a b t written (full t w) (oneBranch a b t) (omega arith)
       go (two {t} {u} w m x) = same-full before store store₁ store₂ grouping grouping₂ a b t written (full t w) (twoBranches a b t u) (omega arith)
+
+  -- so it did not end by having met nothing;
+  pub split-ended : ((n : ℕ) → r ≡ Cannot n → ⊥) → Explored before store store₂ grouping grouping₂ r tree
+  split-ended not-over = go r refl
+    where
+      go : (o : Visited) → r ≡ o → Explored before store store₂ grouping grouping₂ o tree
+      go (Met n) q = split-met n q
+      go (Cannot n) q = absurd (not-over n q)
+      go Full q = split-full q
 
   module _ (n : ℕ) (q : r ≡ Cannot n) where
     turned : (t : Tree) → Visits rule (same a b ∷ ds) t → Turned before store store₁ store₂ grouping grouping₂ a b t written n

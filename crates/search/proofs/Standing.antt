@@ -23,11 +23,11 @@ use Rattle.equality.proofs.Opens.{opens-all-same, split-all, same-fewer, apart-
 use Rattle.classes.specs.declared.Classes.{Classes}
 use Rattle.classes.specs.Pairs.{setApart, withPair, PairsWithin}
 use Rattle.classes.proofs.Path.{pair-leaves, new-represents, join-represents, apart-represents, below-represents, represented-within, smallest-says, marked-says}
-use Rattle.node.specs.declared.Resume.{Resume}
-use Rattle.node.specs.declared.Resume.the-variants.{Scan, Within}
-use Rattle.node.specs.Resume.{ResumesWithin, Resumes, StartsWithin}
-use Rattle.node.specs.Settled.{Marked, Later}
-use Rattle.node.proofs.Settling.{taken-number, same-marked, same-later, later-through}
+use Rattle.node.specs.declared.Place.{Place}
+use Rattle.node.specs.declared.Place.the-variants.{Scan, Within, Nowhere}
+use Rattle.node.specs.Place.{ResumesWithin, Resumes, PlaceWithin}
+use Rattle.node.specs.Settled.{Settled, Later}
+use Rattle.node.proofs.Settling.{taken-number, same-settled, same-later, later-through}
 use Rattle.search.specs.Visited.{Standing, LevelWithin, Untouched, EntriesWithin}
 
 -- ---- the open "same" terms, counted by the map and the pairs: the measure of the visits
@@ -68,43 +68,44 @@ module _ (shut : ℕ → ℕ → Bool) (ds : Decisions) (agrees : (a b : ℕ) �
 -- ---- the path
 
 -- Where a visit may go on is within the sheet.
-pub starts-within : (s : List ℕ) (from : Resume) (ds : Decisions) → Resumes s from ds → StartsWithin s from
-starts-within s Scan ds resumes = tt
-starts-within s (Within c r) ds resumes = resumes .passes .within
+pub place-within : (s : List ℕ) (from : Place) (ds : Decisions) → Resumes s from ds → PlaceWithin s from
+place-within s Scan ds resumes = tt
+place-within s (Within c r) ds resumes = resumes .passes .within
+place-within s Nowhere ds resumes = tt
 
 -- The condition of a split is one of the sheet's;
 pub split-number : (s : List ℕ) (c a b r : ℕ) (ds : Decisions) → ResumesWithin s c r (apart a b ∷ ds) → (1 ≤ c) × (c ≤ conditionCount s)
 split-number s c a b r ds w = taken-number (apart a b ∷ ds) s c (conditionAt s c) (w .condition)
 
--- its same branch is of the next level, in which the condition is marked as settled;
-module _ (s cs marks : List ℕ) (c a b r level : ℕ) (ds : Decisions) (says : cs ≡ classes ds) (l : Marked cs s marks level)
+-- its same branch is of the next level, in which the condition is settled;
+module _ (s cs settled : List ℕ) (c a b r level : ℕ) (ds : Decisions) (says : cs ≡ classes ds) (l : Settled cs s settled level)
     (e : node ds (conditions s) ≡ split a b) (w : ResumesWithin s c r (apart a b ∷ ds)) where
   taken-first : taken ds 1 (conditions s) ≡ takes c (conditionAt s c)
   taken-first = sym (taken-apart ds a b 1 (conditions s)) ∙ w .condition
 
-  pub under-marked : (cs′ marks₁ : List ℕ) → cs′ ≡ merged (classOf cs a) (classOf cs b) cs → marks₁ ≡ set marks (c - 1) (level + 1) → Marked cs′ s marks₁ (level + 1)
-  under-marked cs′ marks₁ joined settled = rw settled (rw joined (rw says (same-marked ds s marks c a b level (rw says at l) e taken-first)))
+  pub under-settled : (cs′ settled₁ : List ℕ) → cs′ ≡ merged (classOf cs a) (classOf cs b) cs → settled₁ ≡ set settled (c - 1) (level + 1) → Settled cs′ s settled₁ (level + 1)
+  under-settled cs′ settled₁ joined written = rw written (rw joined (rw says (same-settled ds s settled c a b level (rw says at l) e taken-first)))
 
-  -- and whatever that branch marked, the marks above the level are later ones.
-  pub under-later : (marks₁ marks′ : List ℕ) → marks₁ ≡ set marks (c - 1) (level + 1) → Later marks₁ marks′ (level + 1) → Later marks marks′ (level + 1)
-  under-later marks₁ marks′ settled later =
-      later-through marks marks₁ marks′ (level + 1) (rw settled (same-later ds s marks c a b level (rw says at l) e taken-first)) later
+  -- and whatever that branch wrote, the levels above this one are later ones.
+  pub under-later : (settled₁ settled′ : List ℕ) → settled₁ ≡ set settled (c - 1) (level + 1) → Later settled₁ settled′ (level + 1) → Later settled settled′ (level + 1)
+  under-later settled₁ settled′ written later =
+      later-through settled settled₁ settled′ (level + 1) (rw written (same-later ds s settled c a b level (rw says at l) e taken-first)) later
 
--- With no decision no condition is marked.
-none-marked : (n m i : ℕ) → _≡_ {A = ℕ} (getD (take m (replicate n 0)) i 0) 0
-none-marked zero zero i = refl
-none-marked zero (suc m) i = refl
-none-marked (suc n) zero i = refl
-none-marked (suc n) (suc m) zero = refl
-none-marked (suc n) (suc m) (suc i) = none-marked n m i
+-- With no decision no condition is settled.
+none-settled : (n m i : ℕ) → _≡_ {A = ℕ} (getD (take m (replicate n 0)) i 0) 0
+none-settled zero zero i = refl
+none-settled zero (suc m) i = refl
+none-settled (suc n) zero i = refl
+none-settled (suc n) (suc m) zero = refl
+none-settled (suc n) (suc m) (suc i) = none-settled n m i
 
-pub start-marked : (cs s : List ℕ) (n m : ℕ) → m ≤ n → conditionCount s ≤ m → Marked cs s (take m (replicate n 0)) 1
-start-marked cs s n m h e =
+pub start-settled : (cs s : List ℕ) (n m : ℕ) → m ≤ n → conditionCount s ≤ m → Settled cs s (take m (replicate n 0)) 1
+start-settled cs s n m h e =
     record {
       low = omega arith;
       sized = omega (arith, length-take-le {A = ℕ} m (replicate n 0) (simp length-replicate h), e);
-      high = λ i. omega (arith, none-marked n m i);
-      each = λ i marked. absurd (marked (none-marked n m i));
+      high = λ i. omega (arith, none-settled n m i);
+      each = λ i some. absurd (some (none-settled n m i));
     }
 
 pub start-level : (s : List ℕ) → Accepted s → LevelWithin s 1 []

@@ -9,12 +9,17 @@ use lib.Seq.{sets}
 use Rattle.sheet.specs.Format.{mostLots, mostRecords}
 use Rattle.sheet.specs.Conditions.{conditions}
 use Rattle.buffers.specs.Lists.{All}
-use Rattle.equality.specs.Node.{Decisions, classOf}
-use Rattle.equality.specs.Search.{Tree, isMet, nodeCount, metDecisions, groupingBytes}
+use Rattle.equality.specs.Node.{Decisions, classOf, split, node}
+use Rattle.equality.specs.Search.{nodeRule, Tree, isMet, nodeCount, metDecisions, groupingBytes}
 use Rattle.equality.specs.Opens.{Small, allOpens}
+use Rattle.equality.specs.Visits.{Visits}
 use Rattle.classes.specs.declared.Classes.{Classes}
 use Rattle.classes.specs.Pairs.{Represents}
+use Rattle.node.specs.declared.Place.{Place}
+use Rattle.node.specs.declared.Split.{Split}
 use Rattle.node.specs.Scan.{Scannable}
+use Rattle.node.specs.Settled.{Settled}
+use Rattle.node.specs.Place.{Resumes, SplitLeaves}
 use Rattle.outcome.specs.Nodes.{records}
 use Rattle.store.specs.Records.{encodeAll, recordLength, capacity}
 use Rattle.outcome.specs.Outcome.{Result, groupingAfter, storeAfter}
@@ -41,6 +46,23 @@ pub record Standing (s : List ℕ) (map : Classes) (pairs : List ℕ) (count : �
 -- The level of the path leaves room for one more for each open "same" term.
 abbrev pub LevelWithin : List ℕ → ℕ → Decisions → Type 0
 LevelWithin s level ds = level + allOpens ds (conditions s) ≤ mostRecords + 1
+
+-- A visit may be made from a place: the settled levels are those of some path that stands so.
+pub record Visitable (s : List ℕ) (map : Classes) (from : Place) (count level : ℕ) (pairs noted : List ℕ) : Type 0 where
+  pub settled : Settled (map .lots) s noted level
+  pub path : Decisions
+  pub standing : Standing s map pairs count path
+  pub resumes : Resumes s from path
+  pub levels : LevelWithin s level path
+
+-- The same of the branches of a split.
+pub record Splittable (s : List ℕ) (map : Classes) (on : Split) (count level : ℕ) (pairs noted : List ℕ) : Type 0 where
+  pub settled : Settled (map .lots) s noted level
+  pub path : Decisions
+  pub standing : Standing s map pairs count path
+  pub splits : node path (conditions s) ≡ split (on .a .0) (on .b .0)
+  pub leaves : SplitLeaves s on path
+  pub levels : LevelWithin s level path
 
 -- The entry of each lot is a lot.
 abbrev pub EntriesWithin : List ℕ → Type 0
@@ -72,6 +94,17 @@ pub record Explored (before : ℕ) (store store′ grouping grouping′ : List �
   pub ends : r ≡ endOf (capacity store) before t
   pub stored : before + nodeCount t ≤ capacity store → store′ ≡ sets store (recordLength * before) (encodeAll (records (before + 1) t))
   pub grouped : grouping′ ≡ groupingEnd r t grouping
+
+-- So for every path that the map and the pairs represent, and from which a visit may go on: it explores the tree that the rule visits from there.
+abbrev pub VisitExplores : List ℕ → Classes → Place → ℕ → List ℕ → ℕ → List ℕ → List ℕ → List ℕ → List ℕ → Visited → Type 0
+VisitExplores s map from count pairs before store store′ grouping grouping′ r =
+    (ds : Decisions) (t : Tree) → Standing s map pairs count ds → Resumes s from ds → Visits (nodeRule (conditions s)) ds t → Explored before store store′ grouping grouping′ r t
+
+-- The same of every path whose node is a split.
+abbrev pub SplitExplores : List ℕ → Classes → Split → ℕ → List ℕ → ℕ → List ℕ → List ℕ → List ℕ → List ℕ → Visited → Type 0
+SplitExplores s map on count pairs before store store′ grouping grouping′ r =
+    (ds : Decisions) (t : Tree) → Standing s map pairs count ds → node ds (conditions s) ≡ split (on .a .0) (on .b .0) → SplitLeaves s on ds
+    → Visits (nodeRule (conditions s)) ds t → Explored before store store′ grouping grouping′ r t
 
 -- A search of this result, of a sheet with n lots, ends so: its case, and the two buffers.
 pub record EndsAs (n : ℕ) (result : Result) (grouping grouping′ store store′ : List ℕ) (r : SearchAnswer) : Type 0 where

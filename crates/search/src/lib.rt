@@ -1,24 +1,21 @@
 // The search over a sheet: its answer, the grouping it finds and the nodes it visits.
 ghost use mathlib.Core.Path.{_≡_};
-ghost use Prim.Native.Nat.{_≤_, _<_};
+ghost use Prim.Native.Nat.{_+_, _≤_, _<_};
 ghost use lib.ListN.{length, take, drop};
 ghost use Rattle.sheet.specs.declared.Verdict.the-variants.{Passes};
 ghost use Rattle.sheet.specs.Format.{mostLots, lotCount};
 ghost use Rattle.sheet.specs.Conditions.{conditions};
-ghost use Rattle.equality.specs.Node.{Decisions, split, node};
-ghost use Rattle.equality.specs.Search.{nodeRule, Tree, searchTree};
-ghost use Rattle.equality.specs.Visits.{Visits};
-ghost use Rattle.node.specs.Settled.{Marked, Later};
+ghost use Rattle.equality.specs.Search.{searchTree};
+ghost use Rattle.node.specs.Settled.{Later};
 ghost use Rattle.node.specs.Scan.{Scannable};
-ghost use Rattle.node.specs.Resume.{Resumes, SplitLeaves};
 ghost use Rattle.store.specs.Records.{capacity};
 ghost use Rattle.outcome.specs.Outcome.{resultOf, searchOutcome};
 ghost use Rattle.search.specs.Answers.{searchAnswer};
 ghost use Rattle.search.specs.Promises.{searchCase, RefusedExactly, FullExactly, FullPlace, MetExactly, MetGrouping, CannotExactly, CannotRefutes, CountBounded};
-ghost use Rattle.search.specs.Visited.{Searchable, Standing, LevelWithin, EntriesWithin, Untouched, Explored, EndsAs};
+ghost use Rattle.search.specs.Visited.{Searchable, EntriesWithin, Visitable, Splittable, Untouched, Explored, VisitExplores, SplitExplores, EndsAs};
 use classes::Classes;
 use node::Node;
-use node::Resume;
+use node::Place;
 use node::Split;
 use sheet::Lot;
 use sheet::Reading;
@@ -28,14 +25,43 @@ use store::NodeRecord;
 // The bytes of the pairs that a path can set apart: two for each term that a sheet can have.
 const PAIRS_LENGTH: usize = 2048;
 
-// The marks of the conditions that are known to be settled: one for each condition that a sheet can have.
-const MARKS_LENGTH: usize = 256;
+// The settled levels: one for each condition that a sheet can have.
+const LEVELS_LENGTH: usize = 256;
 
-// So many marks are taken back at once: they are lent in whole groups of this many.
-const MARKS_TOGETHER: usize = 16;
-
-// The level of the path with no decision. Each same branch is one level further, and 0 stands for no mark.
+// The level of the path with no decision. Each same branch is one level further, and 0 stands for a condition that is not known to be settled.
 const FIRST_LEVEL: u16 = 1;
+
+// How far a search has come: the sheet's conditions, the records written so far, and the level of the path.
+struct Stage {
+    m: u16,
+    before: u32,
+    level: u16,
+}
+
+impl Stage {
+    // From a split into its same branch: a record more, and the next level.
+    fn in_same(self) -> Stage
+        requires { ⌜ (self .before + 1 < 4294967296) × (self .level + 1 < 65536) ⌝ }
+        ensures { λ r. ⌜ (r .m ≡ self .m) × (r .before ≡ self .before + 1) × (r .level ≡ self .level + 1) ⌝ }
+    {
+        Stage {
+            m: self.m,
+            before: self.before + 1,
+            level: self.level + 1,
+        }
+    }
+
+    // From a split into its apart branch, after so many records: the level stays.
+    fn in_apart(self, before: u32) -> Stage
+        ensures { λ r. ⌜ (r .m ≡ self .m) × (r .before ≡ before) × (r .level ≡ self .level) ⌝ }
+    {
+        Stage {
+            m: self.m,
+            before,
+            level: self.level,
+        }
+    }
+}
 
 // How a visit ended: met, or nothing met under the node, with the records written so far; or the store is full.
 pub enum Visited {
@@ -65,34 +91,29 @@ fn write_grouping(grouping: &mut [u8], map: Classes)
     }
 }
 
-// The node of a path, and all under it: its record is written, and a split's branches are visited. `before` records have been written already; `count` is how
-// many pairs the path sets apart. The marks are those of conditions that the path settles, of its levels up to this one.
+// The node of a path, and all under it: its record is written, and a split's branches are visited. `count` is how many pairs the path sets apart; `levels` are
+// the settled levels, of conditions that the path settles.
 fn visit(
     sheet: &[u8],
-    m: u16,
     map: Classes,
+    from: Place,
     count: usize,
-    from: Resume,
-    before: u32,
+    at: Stage,
     pairs: &mut [u8],
     grouping: &mut [u8],
     store: &mut [u8],
-    marks: &mut [u16],
-    level: u16,
+    levels: &mut [u16],
 ) -> Visited
-    requires { ⌜ Searchable (now sheet) m (now grouping) × Marked (map .lots) (now sheet) (now marks) level
-        × ((ds : Decisions) × (Standing (now sheet) map (now pairs) count ds × Resumes (now sheet) from ds × LevelWithin (now sheet) level ds)) ⌝ }
-    ensures visited { λ r. ⌜ ((ds : Decisions) (t : Tree) → Standing (now (sheet .entry)) map (now (pairs .entry)) count ds → Resumes (now (sheet .entry)) from ds
-        → Visits (nodeRule (conditions (now (sheet .entry)))) ds t
-        → Explored before (now (store .entry)) (now (store .exit)) (now (grouping .entry)) (now (grouping .exit)) r t) ⌝ }
-    ensures pairs { λ r. ⌜ Untouched (now (pairs .entry)) (now (pairs .exit)) count ⌝ }
-    ensures marks { λ r. ⌜ Later (now (marks .entry)) (now (marks .exit)) level ⌝ }
+    requires { ⌜ Searchable (now sheet) (at .m) (now grouping) × Visitable (now sheet) map from count (at .level) (now pairs) (now levels) ⌝ }
+    ensures visited { λ r. ⌜ VisitExplores (now (sheet .entry)) map from count (now (pairs .entry)) (at .before) (now (store .entry)) (now (store .exit)) (now (grouping .entry)) (now (grouping .exit)) r ⌝ }
+    ensures kept { λ r. ⌜ Untouched (now (pairs .entry)) (now (pairs .exit)) count × Later (now (levels .entry)) (now (levels .exit)) (at .level) ⌝ }
 {
+    let before = at.before;
     if store::capacity_of(store) <= (before as usize) {
         return Visited::Full;
     }
-    let place = node::locate(sheet, m, map, from, marks, level);
-    let node = node::node_at(sheet, m, map, pairs, count, place);
+    let place = node::locate(sheet, at.m, map, from, levels, at.level);
+    let node = node::node_at(sheet, at.m, map, pairs, count, place);
     match node {
         Node::Met => {
             store::write(store, NodeNumber(before + 1), NodeRecord::Met);
@@ -103,95 +124,51 @@ fn visit(
             store::write(store, NodeNumber(before + 1), NodeRecord::Ground(c));
             Visited::Cannot(before + 1)
         }
-        Node::Split(on) => branches(
-            sheet,
-            m,
-            map,
-            count,
-            on,
-            before,
-            pairs,
-            grouping,
-            store,
-            marks,
-            level,
-        ),
+        Node::Split(on) => branches(sheet, map, on, count, at, pairs, grouping, store, levels),
     }
 }
 
 // A split on two lots: its record, all under its same branch, in which its condition is settled, and, if nothing was met there, all under its apart branch,
-// which goes on in the same condition after the term of the split, with the marks as they were before. The store is seen to have room before the split's next
-// is set, since that has two bytes.
+// which goes on in the same condition after the term of the split, with the settled levels as they were before. The store is seen to have room before the
+// split's next is set, since that has two bytes.
 fn branches(
     sheet: &[u8],
-    m: u16,
     map: Classes,
-    count: usize,
     on: Split,
-    before: u32,
+    count: usize,
+    at: Stage,
     pairs: &mut [u8],
     grouping: &mut [u8],
     store: &mut [u8],
-    marks: &mut [u16],
-    level: u16,
+    levels: &mut [u16],
 ) -> Visited
-    requires { ⌜ Searchable (now sheet) m (now grouping) × (before < capacity (now store)) × Marked (map .lots) (now sheet) (now marks) level
-        × ((ds : Decisions) × (Standing (now sheet) map (now pairs) count ds × (node ds (conditions (now sheet)) ≡ split (on .a .0) (on .b .0))
-        × SplitLeaves (now sheet) on ds × LevelWithin (now sheet) level ds)) ⌝ }
-    ensures visited { λ r. ⌜ ((ds : Decisions) (t : Tree) → Standing (now (sheet .entry)) map (now (pairs .entry)) count ds
-        → node ds (conditions (now (sheet .entry))) ≡ split (on .a .0) (on .b .0) → SplitLeaves (now (sheet .entry)) on ds
-        → Visits (nodeRule (conditions (now (sheet .entry)))) ds t
-        → Explored before (now (store .entry)) (now (store .exit)) (now (grouping .entry)) (now (grouping .exit)) r t) ⌝ }
-    ensures pairs { λ r. ⌜ Untouched (now (pairs .entry)) (now (pairs .exit)) count ⌝ }
-    ensures marks { λ r. ⌜ Later (now (marks .entry)) (now (marks .exit)) level ⌝ }
+    requires { ⌜ Searchable (now sheet) (at .m) (now grouping) × (at .before < capacity (now store)) × Splittable (now sheet) map on count (at .level) (now pairs) (now levels) ⌝ }
+    ensures visited { λ r. ⌜ SplitExplores (now (sheet .entry)) map on count (now (pairs .entry)) (at .before) (now (store .entry)) (now (store .exit)) (now (grouping .entry)) (now (grouping .exit)) r ⌝ }
+    ensures kept { λ r. ⌜ Untouched (now (pairs .entry)) (now (pairs .exit)) count × Later (now (levels .entry)) (now (levels .exit)) (at .level) ⌝ }
 {
-    let here = NodeNumber(before + 1);
+    let here = NodeNumber(at.before + 1);
     let a = on.a;
     let b = on.b;
     store::write(store, here, NodeRecord::Split(a, b, NodeNumber(0)));
-    let joined = map.join(a, b);
+    let same = map.join(a, b);
+    let up = at.in_same();
     let c = on.condition;
-    node::settle(marks, c, level + 1);
-    let under_same = visit(
-        sheet,
-        m,
-        joined,
-        count,
-        Resume::Scan,
-        before + 1,
-        pairs,
-        grouping,
-        store,
-        marks,
-        level + 1,
-    );
-    match under_same {
-        Visited::Met(n) => Visited::Met(n),
-        Visited::Full => Visited::Full,
-        Visited::Cannot(n) => {
-            if store::capacity_of(store) <= (n as usize) {
-                return Visited::Full;
-            }
-            store::set_next(store, here, NodeNumber(n + 1));
-            classes::set_apart(pairs, count, a, b);
-            node::clear_above(marks, level);
-            let after = on.after;
-            let from = Resume::Within(c, after);
-            visit(
-                sheet,
-                m,
-                map,
-                count + 1,
-                from,
-                n,
-                pairs,
-                grouping,
-                store,
-                marks,
-                level,
-            )
-        }
+    node::settle(levels, c, up.level);
+    let from = Place::Scan;
+    let under_same = visit(sheet, same, from, count, up, pairs, grouping, store, levels);
+    let Visited::Cannot(n) = under_same else {
+        return under_same;
+    };
+    if store::capacity_of(store) <= (n as usize) {
+        return Visited::Full;
     }
+    store::set_next(store, here, NodeNumber(n + 1));
+    classes::set_apart(pairs, count, a, b);
+    node::clear_above(levels, at.level);
+    let at = at.in_apart(n);
+    let from = on.apart_place();
+    let count = count + 1;
+    visit(sheet, map, from, count, at, pairs, grouping, store, levels)
 }
 
 // The search of an accepted sheet, from no decisions and no records on.
@@ -200,21 +177,24 @@ fn start(sheet: &[u8], m: u16, grouping: &mut [u8], store: &mut [u8]) -> Visited
     ensures { λ r. ⌜ Explored 0 (now (store .entry)) (now (store .exit)) (now (grouping .entry)) (now (grouping .exit)) r (searchTree (conditions (now (sheet .entry)))) ⌝ }
 {
     let mut pairs = [0u8; PAIRS_LENGTH];
-    let mut marks = [0u16; MARKS_LENGTH];
-    let room = MARKS_TOGETHER * ((m as usize + (MARKS_TOGETHER - 1)) / MARKS_TOGETHER);
+    let mut levels = [0u16; LEVELS_LENGTH];
+    let room = m as usize;
     let map = Classes::new();
+    let at = Stage {
+        m,
+        before: 0,
+        level: FIRST_LEVEL,
+    };
     visit(
         sheet,
-        m,
         map,
+        Place::Scan,
         0,
-        Resume::Scan,
-        0,
+        at,
         &mut pairs,
         grouping,
         store,
-        &mut marks[..room],
-        FIRST_LEVEL,
+        &mut levels[..room],
     )
 }
 

@@ -2,7 +2,7 @@
 use borrow.Author.Needs.{needs}
 use mathlib.Core.Path.{subst}
 use Rattle.node.specs.declared.Place.{Place}
-use Rattle.node.specs.Resume.{Stands, PlaceWithin}
+use Rattle.node.specs.Place.{Stands, PlaceWithin}
 use Rattle.node.proofs.Resuming.{none-met}
 use Rattle.node.proofs.node_at.Statement.{statement}
 use Rattle.node.proofs.node_at.Tie as tie
@@ -10,31 +10,50 @@ use Rattle.node.proofs.node_at.Tie as tie
 enum-known-place : tie.Need-enum-known-place
 enum-known-place c = search needs
 
-ground-or-split-requires : tie.Need-ground-or-split-requires
-ground-or-split-requires c κs =
+first-open-requires : tie.Need-first-open-requires
+first-open-requires c κs =
     let start = c .before .before .before .before .before in
     (start .pre .0, start .pre .1, subst (PlaceWithin (start .args .sheet .now)) (c .before .place .given .1) (start .pre .2))
 
 enum-told : tie.Need-enum-told
 enum-told c = search needs
 
+enum-told-2 : tie.Need-enum-told-2
+enum-told-2 c = search needs
+
+-- Within a condition;
 returns : tie.Need-returns
 returns c =
-    let start = c .before .before .before .before .before .before in
-    let s = start .args .sheet .now in
+    let s = c .before .before .before .before .before .before .args .sheet .now in
     let at = c .before .before .place .given .1 in (
-      (λ ds rep w. c .ground-or-split .ensures .0 ds rep (subst (λ (p : Place). Stands s p ds) at w)),
-      (λ ds rep w. c .ground-or-split .ensures .1 ds rep (subst (λ (p : Place). Stands s p ds) at w)),
+      (λ ds rep w. c .first-open .ensures .0 ds rep (subst (λ (p : Place). Stands s p ds) at w)),
+      (λ ds rep w. c .first-open .ensures .1 ds rep (subst (λ (p : Place). Stands s p ds) at w)),
     )
 
+-- nowhere;
 returns-2 : tie.Need-returns-2
 returns-2 c =
-    let start = c .before .before .before .before in
-    let s = start .args .sheet .now in (
+    let s = c .before .before .before .before .args .sheet .now in (
       (λ ds rep w. none-met ds s (subst (λ (p : Place). Stands s p ds) (c .enum-told .given .1) w)),
+      (λ ds rep w. tt),
+    )
+
+-- and no node stands at a place that is not known.
+returns-3 : tie.Need-returns-3
+returns-3 c =
+    let s = c .before .before .before .before .args .sheet .now in (
+      (λ ds rep w. absurd (subst (λ (p : Place). Stands s p ds) (c .enum-told2 .given .1) w)),
       (λ ds rep w. tt),
     )
 
 pub node-at-spec : {M : Type 1} → statement M
 node-at-spec =
-    tie.close (tie.spec enum-known-place ground-or-split-requires enum-told returns returns-2)
+    tie.close
+    (tie.spec
+    enum-known-place
+    first-open-requires
+    enum-told
+    enum-told-2
+    returns
+    returns-2
+    returns-3)

@@ -1,39 +1,118 @@
--- `node::scan`: the conditions that the outer loop has passed are met by the classes, and the marks, of which some were written where there was none, are of
--- settled conditions; the terms that the inner loop has passed are not true by the classes, and it has written no mark.
+-- `node::scan`: the conditions that the outer loop has passed are met by the classes, and the levels, of which some were written where there was none, are of
+-- settled conditions; the terms that the inner loop has passed are not true by the classes, and it has written no level.
 use borrow.Author.Needs.{needs}
 use mathlib.Core.Path.{_≡_, refl, sym, ap, _∙_}
+use mathlib.Core.List.{List}
 use Prim.Native.Nat.{ℕ, suc, _+_, _-_, _≤_, _<_}
 use native.Mathlib.Numerals.{add-one}
 use native.Mathlib.Omega.{arith}
 use lib.Dec.{eqb}
-use mathlib.Core.Bool.{true, Bool·beq}
+use mathlib.Core.Bool.{Bool, true, false, Bool·beq}
 use lib.ListN.{length}
 use Rattle.sheet.specs.declared.Term.{Term}
+use Rattle.sheet.specs.Checks.{Accepted}
 use Rattle.sheet.specs.Conditions.{termAt, recordsFrom, termsFrom, conditionAt, conditions}
-use Rattle.sheet.specs.Format.{mostLots, lotCount, conditionCount, headAt, signAt, firstLotAt, secondLotAt}
+use Rattle.sheet.specs.Format.{mostLots, lotCount, conditionCount, recordCount, headAt, signAt, firstLotAt, secondLotAt}
 use Rattle.sheet.proofs.Accepted.{SoundRecord, sound, has-record}
 use Rattle.sheet.proofs.ChainEnds.{rest-shorter}
-use Rattle.equality.specs.Node.{classOf}
+use Rattle.equality.specs.Node.{Decisions, classes, classOf, takes, taken}
 use Rattle.equality.specs.Meaning.{holds, meetsCondition}
 use Rattle.equality.proofs.Some.{some-any}
 use Rattle.equality.proofs.Passing.{Passing, passing-start, found, passing-next, ended}
 use Rattle.node.proofs.Scanning.{Scanning, scanning-start, taken-here, scanning-next, none-taken, taken-by-map, term-flag}
-use Rattle.node.specs.Settled.{settledBy, Marked, Later}
+use Rattle.node.specs.Settled.{settledBy, Settled, Later}
+use Rattle.node.specs.Place.{ResumesWithin}
 use Rattle.node.proofs.Settling.{some-found, settled-met, found-sharing, sharing-flag, later-none, settled-next}
+use Rattle.node.proofs.Resuming.{head-resumes}
 use Rattle.node.proofs.scan.Statement.{statement}
 use Rattle.node.proofs.scan.Tie as tie
 
 abbrev Inv-terms : tie.InvT-terms
-Inv-terms sheet m marks₀ level lots c place at₀ marks at = Passing (holds (classOf lots)) sheet (at₀ .0) (at .0) × (marks ≡ marks₀)
+Inv-terms sheet m levels₀ level lots c place head at₀ levels at = Passing (holds (classOf lots)) sheet (at₀ .0) (at .0) × (levels ≡ levels₀)
 
 abbrev μ-terms : tie.MeasureT-terms
-μ-terms sheet m marks₀ level lots c place at₀ marks at = length (recordsFrom sheet (at .0))
+μ-terms sheet m levels₀ level lots c place head at₀ levels at = length (recordsFrom sheet (at .0))
 
 abbrev Inv-conditions : tie.InvT-conditions
-Inv-conditions sheet m marks₀ level lots c₀ marks c = Scanning (classOf lots) sheet c × Marked lots sheet marks level × Later marks₀ marks level
+Inv-conditions sheet m levels₀ level lots c₀ levels c =
+    Scanning (classOf lots) sheet c × Settled lots sheet levels level × Later levels₀ levels level
 
 abbrev μ-conditions : tie.MeasureT-conditions
-μ-conditions sheet m marks₀ level lots c₀ marks c = m - c
+μ-conditions sheet m levels₀ level lots c₀ levels c = m - c
+
+-- ---- the places of the code: in a turn of the outer loop, where a head was read, in a turn of the inner loop, where a term was read, where it is true, and
+-- where no term is left
+
+abbrev Turn : Type 0
+Turn = tie.Else1 Inv-terms μ-terms Inv-conditions μ-conditions
+
+abbrev Headed : Type 0
+Headed = tie.After-head-at Inv-terms μ-terms Inv-conditions μ-conditions
+
+abbrev Inner : Type 0
+Inner = tie.Else3 Inv-terms μ-terms Inv-conditions μ-conditions
+
+abbrev Read : Type 0
+Read = tie.After-term-at Inv-terms μ-terms Inv-conditions μ-conditions
+
+abbrev Holding : Type 0
+Holding = tie.Then4 Inv-terms μ-terms Inv-conditions μ-conditions
+
+abbrev Over : Type 0
+Over = tie.Then3 Inv-terms μ-terms Inv-conditions μ-conditions
+
+abbrev begun : Turn → tie.Start Inv-terms μ-terms Inv-conditions μ-conditions
+begun c = c .before .before .before .before .before
+
+abbrev turn-of : Headed → Turn
+turn-of c = c .before .before .before
+
+abbrev headed : Inner → Headed
+headed c = c .before .before .before
+
+abbrev turn : Inner → Turn
+turn c = turn-of (headed c)
+
+abbrev read-of : Holding → Read
+read-of c = c .before .before .before .before
+
+abbrev inner : Holding → Inner
+inner c = read-of c .before
+
+abbrev over : Over → Headed
+over c = c .before .before .before
+
+-- ---- what is there
+
+abbrev bytes : Turn → List ℕ
+bytes c = begun c .args .sheet .now
+
+abbrev lots : Turn → List ℕ
+lots c = begun c .args .map .lots
+
+abbrev accepted : (c : Turn) → Accepted (bytes c)
+accepted c = begun c .pre .0 .accepted
+
+-- The condition before this turn's,
+abbrev number : Turn → ℕ
+number c = c .before .conditions .c
+
+-- the levels at its start,
+abbrev noted : Turn → List ℕ
+noted c = c .before .conditions .levels
+
+-- and the record that the inner loop stands at.
+abbrev place : Inner → ℕ
+place c = c .before .before .terms .at .0
+
+abbrev walked : (c : Inner) → Passing (holds (classOf (lots (turn c)))) (bytes (turn c)) (headed c .head-at .result .0) (place c)
+walked c = c .before .before .terms .inv .0
+
+-- The classes meet this turn's condition, or not.
+abbrev Meets : Turn → Bool → Type 0
+Meets c b = meetsCondition (classOf (lots c)) (conditionAt (bytes c) (suc (number c))) ≡ b
+
+-- ---- the conditions
 
 conditions-holds : tie.Need-conditions-holds Inv-terms μ-terms Inv-conditions μ-conditions
 conditions-holds c = (scanning-start _ _, c .before .before .before .pre .1, later-none _ _)
@@ -42,67 +121,70 @@ cast-place : tie.Need-cast-place Inv-terms μ-terms Inv-conditions μ-conditions
 cast-place c = search needs
 
 -- In a turn of the outer loop there is one condition more,
-numbered : (c : tie.Else1 Inv-terms μ-terms Inv-conditions μ-conditions) → c .before .conditions .c < conditionCount (c .before .before .before .before .before .args .sheet .now)
-numbered c = omega (arith, c .if1 .left, c .before .before .before .before .before .pre .0 .counted)
+numbered : (c : Turn) → number c < conditionCount (bytes c)
+numbered c = omega (arith, c .if1 .left, begun c .pre .0 .counted)
 
 add-c : tie.Need-add-c Inv-terms μ-terms Inv-conditions μ-conditions
-add-c c = omega (arith, numbered c, sound (c .before .before .before .before .before .args .sheet .now) (c .before .before .before .before .before .pre .0 .accepted) .header .conditions)
+add-c c = omega (arith, numbered c, sound (bytes c) (accepted c) .header .conditions)
 
 mul-if2 : tie.Need-mul-if2 Inv-terms μ-terms Inv-conditions μ-conditions
 mul-if2 c = search needs
 
--- and it has a mark;
-marks-place : (c : tie.Else1 Inv-terms μ-terms Inv-conditions μ-conditions) → c .before .conditions .c < length (c .before .conditions .marks)
-marks-place c = omega (arith, numbered c, c .before .conditions .inv .1 .sized)
+-- and it has a level;
+level-place : (c : Turn) → number c < length (noted c)
+level-place c = omega (arith, numbered c, c .before .conditions .inv .1 .sized)
 
 slice-read-if2 : tie.Need-slice-read-if2 Inv-terms μ-terms Inv-conditions μ-conditions
-slice-read-if2 c = marks-place (c .before)
+slice-read-if2 c = level-place (c .before)
 
 conditions-less : tie.Need-conditions-less Inv-terms μ-terms Inv-conditions μ-conditions
 conditions-less c = omega (arith, c .before .before .if1 .left)
 
--- A condition that is marked is settled, so it is met.
+-- The next turn begins where this condition is met.
+passed : (c : Turn) → Meets c true → Scanning (classOf (lots c)) (bytes c) (number c + 1)
+passed c e = rw add-one (scanning-next (classOf (lots c)) (bytes c) (number c) (c .before .conditions .inv .0) (numbered c) e)
+
+-- A condition that has a level is settled, so it is met.
 conditions-again : tie.Need-conditions-again Inv-terms μ-terms Inv-conditions μ-conditions
 conditions-again c =
     let d = c .before .before in
-    let start = d .before .before .before .before .before in
-    let lots = start .args .map .lots in
-    let s = start .args .sheet .now in
     let inv = d .before .conditions .inv in (
-      rw add-one
-          (scanning-next (classOf lots) s (d .before .conditions .c) (inv .0) (numbered d)
-          (settled-met lots (conditionAt s (suc (d .before .conditions .c))) (inv .1 .each (d .before .conditions .c) (c .if2 .taken)))),
+      passed d (settled-met (lots d) (conditionAt (bytes d) (suc (number d))) (inv .1 .each (number d) (c .if2 .taken))),
       inv .1,
       inv .2,
     )
 
 head-at-requires : tie.Need-head-at-requires Inv-terms μ-terms Inv-conditions μ-conditions
-head-at-requires c κs = omega (arith, numbered (c .before .before), sound (c .before .before .before .before .before .before .before .args .sheet .now) (c .before .before .before .before .before .before .before .pre .0 .accepted) .header .whole)
+head-at-requires c κs = let d = c .before .before in omega (arith, numbered d, sound (bytes d) (accepted d) .header .whole)
+
+-- Otherwise the chain that the inner loop walks is the condition's.
+head-of : (c : Headed) → c .head-at .result .0 ≡ headAt (bytes (turn-of c)) (suc (number (turn-of c)))
+head-of c = c .head-at .ensures ∙ ap (headAt (bytes (turn-of c))) (add-one (number (turn-of c)))
+
+head-within : (c : Headed) → c .head-at .result .0 ≤ recordCount (bytes (turn-of c))
+head-within c =
+    let d = turn-of c in
+    omega (arith, c .head-at .ensures, sound (bytes d) (accepted d) .heads (number d + 1) (omega arith) (omega (arith, numbered d)))
 
 terms-holds : tie.Need-terms-holds Inv-terms μ-terms Inv-conditions μ-conditions
-terms-holds c =
-    let start = c .before .before .before .before .before .before .before .before in (
-      passing-start _ _ _
-          (rw (c .head-at .ensures)
-          (sound (start .args .sheet .now) (start .pre .0 .accepted) .heads (c .before .before .before .before .conditions .c + 1) (omega arith) (omega (arith, numbered (c .before .before .before))))),
-      refl,
-    )
+terms-holds c = (passing-start _ _ _ (head-within c), refl)
 
--- and in a turn of the inner loop a record of the sheet's.
-record-number : (c : tie.Else3 Inv-terms μ-terms Inv-conditions μ-conditions) → 1 ≤ c .before .before .terms .at .0
+-- ---- the terms of a condition
+
+-- In a turn of the inner loop there is a record of the sheet's.
+record-number : (c : Inner) → 1 ≤ place c
 record-number c = omega (arith, c .if3 .left)
 
-fields : (c : tie.Else3 Inv-terms μ-terms Inv-conditions μ-conditions) → SoundRecord (c .before .before .before .before .before .before .before .before .before .before .before .args .sheet .now) (c .before .before .terms .at .0)
-fields c = sound (c .before .before .before .before .before .before .before .before .before .before .before .args .sheet .now) (c .before .before .before .before .before .before .before .before .before .before .before .pre .0 .accepted) .records (c .before .before .terms .at .0) (record-number c) (c .before .before .terms .inv .0 .within)
+fields : (c : Inner) → SoundRecord (bytes (turn c)) (place c)
+fields c = sound (bytes (turn c)) (accepted (turn c)) .records (place c) (record-number c) (walked c .within)
 
-lots-within : (c : tie.Else3 Inv-terms μ-terms Inv-conditions μ-conditions) → lotCount (c .before .before .before .before .before .before .before .before .before .before .before .args .sheet .now) ≤ mostLots
-lots-within c = sound (c .before .before .before .before .before .before .before .before .before .before .before .args .sheet .now) (c .before .before .before .before .before .before .before .before .before .before .before .pre .0 .accepted) .header .lots
+lots-within : (c : Inner) → lotCount (bytes (turn c)) ≤ mostLots
+lots-within c = sound (bytes (turn c)) (accepted (turn c)) .header .lots
 
 term-at-requires : tie.Need-term-at-requires Inv-terms μ-terms Inv-conditions μ-conditions
 term-at-requires c κs =
-    let start = c .before .before .before .before .before .before .before .before .before .before .before in
-    rw (start .pre .0 .counted)
-    (has-record (sound (start .args .sheet .now) (start .pre .0 .accepted) .header) (c .before .before .terms .at .0) (record-number c) (c .before .before .terms .inv .0 .within))
+    rw (begun (turn c) .pre .0 .counted)
+    (has-record (sound (bytes (turn c)) (accepted (turn c)) .header) (place c) (record-number c) (walked c .within))
 
 cast-a : tie.Need-cast-a Inv-terms μ-terms Inv-conditions μ-conditions
 cast-a c = search needs
@@ -112,118 +194,109 @@ cast-b c = search needs
 
 array-read-shared : tie.Need-array-read-shared Inv-terms μ-terms Inv-conditions μ-conditions
 array-read-shared c =
-    let d = c .before .before .before in
-    rw (c .before .before .term-at .ensures) (omega (arith, fields d .first .high, lots-within d))
+    let d = c .before .before in
+    rw (d .term-at .ensures) (omega (arith, fields (d .before) .first .high, lots-within (d .before)))
 
 array-read-shared-2 : tie.Need-array-read-shared-2 Inv-terms μ-terms Inv-conditions μ-conditions
 array-read-shared-2 c =
-    let d = c .before .before .before in
-    rw (c .before .before .term-at .ensures) (omega (arith, fields d .second .high, lots-within d))
-
-mul-marks : tie.Need-mul-marks Inv-terms μ-terms Inv-conditions μ-conditions
-mul-marks c =
-    let start = c .before .before .before .before .before .before .before .before .before .before .before .before .before .before .before .before .before in
-    record { fits = omega (arith, numbered (c .before .before .before .before .before .before .before .before .before .before .before .before), sound (start .args .sheet .now) (start .pre .0 .accepted) .header .conditions) }
-
-slice-write-marks : tie.Need-slice-write-marks Inv-terms μ-terms Inv-conditions μ-conditions
-slice-write-marks c = let d = c .before .before .before .before .before .before in omega (arith, marks-place (d .before .before .before .before .before .before), ap length (d .before .before .terms .inv .1))
-
-conditions-less-2 : tie.Need-conditions-less-2 Inv-terms μ-terms Inv-conditions μ-conditions
-conditions-less-2 c = omega (arith, c .before .before .before .before .before .before .before .before .before .before .before .before .if1 .left)
+    let d = c .before .before in
+    rw (d .term-at .ensures) (omega (arith, fields (d .before) .second .high, lots-within (d .before)))
 
 -- The test on a term is whether the classes make it true.
-flag : (c : tie.After-term-at Inv-terms μ-terms Inv-conditions μ-conditions)
-    → holds (classOf (c .before .before .before .before .before .before .before .before .before .before .before .before .args .map .lots)) (termAt (c .before .before .before .before .before .before .before .before .before .before .before .before .args .sheet .now) (c .before .before .before .terms .at .0))
-    ≡ Bool·beq (eqb (classOf (c .before .before .before .before .before .before .before .before .before .before .before .before .args .map .lots) (c .term-at .result .a .0)) (classOf (c .before .before .before .before .before .before .before .before .before .before .before .before .args .map .lots) (c .term-at .result .b .0))) (eqb (c .term-at .result .sign) 1)
+flag : (c : Read)
+    → holds (classOf (lots (turn (c .before)))) (termAt (bytes (turn (c .before))) (place (c .before)))
+    ≡ Bool·beq (eqb (classOf (lots (turn (c .before))) (c .term-at .result .a .0)) (classOf (lots (turn (c .before))) (c .term-at .result .b .0))) (eqb (c .term-at .result .sign) 1)
 flag c =
-    let f = classOf (c .before .before .before .before .before .before .before .before .before .before .before .before .args .map .lots) in
-    let s = c .before .before .before .before .before .before .before .before .before .before .before .before .args .sheet .now in
-    let r = c .before .before .before .terms .at .0 in
+    let f = classOf (lots (turn (c .before))) in
+    let s = bytes (turn (c .before)) in
+    let r = place (c .before) in
     term-flag f (signAt s r) (firstLotAt s r) (secondLotAt s r)
     ∙ ap (λ (t : Term). Bool·beq (eqb (f (t .a .0)) (f (t .b .0))) (eqb (t .sign) 1)) (sym (c .term-at .ensures))
 
--- The chain that the inner loop walks is that of the condition.
-head-of : (c : tie.After-head-at Inv-terms μ-terms Inv-conditions μ-conditions) → c .head-at .result .0 ≡ headAt (c .before .before .before .before .before .before .before .before .args .sheet .now) (suc (c .before .before .before .before .conditions .c))
-head-of c = c .head-at .ensures ∙ ap (headAt (c .before .before .before .before .before .before .before .before .args .sheet .now)) (add-one (c .before .before .before .before .conditions .c))
+-- ---- a true term
 
--- A true term meets it,
-met-here : (c : tie.Then4 Inv-terms μ-terms Inv-conditions μ-conditions) → meetsCondition (classOf (c .before .before .before .before .before .before .before .before .before .before .before .before .before .before .before .before .args .map .lots)) (conditionAt (c .before .before .before .before .before .before .before .before .before .before .before .before .before .before .before .before .args .sheet .now) (suc (c .before .before .before .before .before .before .before .before .before .before .before .before .conditions .c))) ≡ true
+-- It meets the condition,
+met-here : (c : Holding) → Meets (turn (inner c)) true
 met-here c =
-    let d = c .before .before .before .before .before in
-    let start = d .before .before .before .before .before .before .before .before .before .before .before in
-    let f = classOf (start .args .map .lots) in
-    let s = start .args .sheet .now in
-    let head = d .before .before .before in
-    ap (λ (r : ℕ). meetsCondition f (termsFrom s r)) (sym (head-of head))
-    ∙ some-found (holds f) (termsFrom s (head .head-at .result .0))
-    (found (holds f) s (start .pre .0 .accepted) (head .head-at .result .0) (d .before .before .terms .at .0) (d .before .before .terms .inv .0) (record-number d) (flag (c .before .before .before .before) ∙ c .if4 .taken))
+    let d = inner c in
+    let f = classOf (lots (turn d)) in
+    let s = bytes (turn d) in
+    let head = headed d .head-at .result .0 in
+    ap (λ (r : ℕ). meetsCondition f (termsFrom s r)) (sym (head-of (headed d)))
+    ∙ some-found (holds f) (termsFrom s head) (found (holds f) s (accepted (turn d)) head (place d) (walked d) (record-number d) (flag (read-of c) ∙ c .if4 .taken))
 
 -- and one whose lots share a class settles it.
-settled-here : (c : tie.Then5 Inv-terms μ-terms Inv-conditions μ-conditions) → settledBy (c .before .before .before .before .before .before .before .before .before .before .before .before .before .before .before .before .before .args .map .lots) (conditionAt (c .before .before .before .before .before .before .before .before .before .before .before .before .before .before .before .before .before .args .sheet .now) (suc (c .before .before .before .before .before .before .before .before .before .before .before .before .before .conditions .c))) ≡ true
-settled-here c =
-    let d = c .before .before .before .before .before .before in
-    let start = d .before .before .before .before .before .before .before .before .before .before .before in
-    let lots = start .args .map .lots in
-    let s = start .args .sheet .now in
-    let r = d .before .before .terms .at .0 in
-    let term = c .before .before .before .before .before .term-at .ensures in
-    ap (λ (r : ℕ). settledBy lots (termsFrom s r)) (sym (head-of (d .before .before .before)))
-    ∙ found-sharing lots s (holds (classOf lots)) (start .pre .0 .accepted) (d .before .before .before .head-at .result .0) r (d .before .before .terms .inv .0) (record-number d)
-    (sharing-flag lots (signAt s r) (firstLotAt s r) (secondLotAt s r)
-    (ap (λ (t : Term). eqb (classOf lots (t .a .0)) (classOf lots (t .b .0))) (sym term) ∙ c .if5 .taken)
-    (ap (λ (t : Term). Bool·beq (eqb (classOf lots (t .a .0)) (classOf lots (t .b .0))) (eqb (t .sign) 1)) (sym term) ∙ c .before .if4 .taken))
+settled-by : (c : tie.Then5 Inv-terms μ-terms Inv-conditions μ-conditions)
+    → settledBy (lots (turn (inner (c .before)))) (conditionAt (bytes (turn (inner (c .before)))) (suc (number (turn (inner (c .before)))))) ≡ true
+settled-by c =
+    let term = read-of (c .before) in
+    let d = term .before in
+    let cs = lots (turn d) in
+    let s = bytes (turn d) in
+    let r = place d in
+    ap (λ (r : ℕ). settledBy cs (termsFrom s r)) (sym (head-of (headed d)))
+    ∙ found-sharing cs s (holds (classOf cs)) (accepted (turn d)) (headed d .head-at .result .0) r (walked d) (record-number d)
+    (sharing-flag cs (signAt s r) (firstLotAt s r) (secondLotAt s r)
+    (ap (λ (t : Term). eqb (classOf cs (t .a .0)) (classOf cs (t .b .0))) (sym (term .term-at .ensures)) ∙ c .if5 .taken)
+    (ap (λ (t : Term). Bool·beq (eqb (classOf cs (t .a .0)) (classOf cs (t .b .0))) (eqb (t .sign) 1)) (sym (term .term-at .ensures)) ∙ c .before .if4 .taken))
+
+mul-levels : tie.Need-mul-levels Inv-terms μ-terms Inv-conditions μ-conditions
+mul-levels c =
+    let d = turn (inner (c .before)) in
+    record { fits = omega (arith, numbered d, sound (bytes d) (accepted d) .header .conditions) }
+
+slice-write-levels : tie.Need-slice-write-levels Inv-terms μ-terms Inv-conditions μ-conditions
+slice-write-levels c =
+    let d = inner (c .before) in
+    omega (arith, level-place (turn d), ap length (d .before .before .terms .inv .1))
+
+conditions-less-2 : tie.Need-conditions-less-2 Inv-terms μ-terms Inv-conditions μ-conditions
+conditions-less-2 c = omega (arith, turn (inner (c .before)) .if1 .left)
 
 conditions-again-2 : tie.Need-conditions-again-2 Inv-terms μ-terms Inv-conditions μ-conditions
 conditions-again-2 c =
-    let d = c .before .before .before .before .before .before in
-    let start = d .before .before .before .before .before .before .before .before .before .before .before in
-    let lots = start .args .map .lots in
-    let s = start .args .sheet .now in
-    let head = d .before .before .before in
-    let outer = head .before .before .before .before in
+    let d = inner (c .before) in
+    let outer = turn d in
+    let inv = outer .before .conditions .inv in
     let rest =
-    settled-next lots s _ (outer .conditions .marks) (d .before .before .terms .marks) (start .args .level) (outer .conditions .c) (d .before .before .terms .inv .1) (marks-place (head .before .before .before)) (head .before .if2 .left)
-    (settled-here c) (outer .conditions .inv .1) (outer .conditions .inv .2) in (
-      rw add-one
-          (scanning-next (classOf lots) s (outer .conditions .c) (outer .conditions .inv .0) (numbered (head .before .before .before)) (met-here (c .before))),
-      rest .0,
-      rest .1,
-    )
+    settled-next (lots outer) (bytes outer) _ (noted outer) (d .before .before .terms .levels) (begun outer .args .level) (number outer) (d .before .before .terms .inv .1)
+    (level-place outer) (headed d .before .if2 .left) (settled-by c) (inv .1) (inv .2) in
+    (passed outer (met-here (c .before)), rest .0, rest .1)
 
 conditions-less-3 : tie.Need-conditions-less-3 Inv-terms μ-terms Inv-conditions μ-conditions
-conditions-less-3 c = omega (arith, c .before .before .before .before .before .before .before .before .before .before .before .before .if1 .left)
+conditions-less-3 c = omega (arith, turn (inner (c .before)) .if1 .left)
 
 conditions-again-3 : tie.Need-conditions-again-3 Inv-terms μ-terms Inv-conditions μ-conditions
 conditions-again-3 c =
-    let d = c .before .before .before .before .before .before in
-    let start = d .before .before .before .before .before .before .before .before .before .before .before in
-    let lots = start .args .map .lots in
-    let s = start .args .sheet .now in
-    let head = d .before .before .before in
-    let outer = head .before .before .before .before in (
-      rw add-one
-          (scanning-next (classOf lots) s (outer .conditions .c) (outer .conditions .inv .0) (numbered (head .before .before .before)) (met-here (c .before))),
-      rw (d .before .before .terms .inv .1) (outer .conditions .inv .1),
-      rw (d .before .before .terms .inv .1) (outer .conditions .inv .2),
-    )
+    let d = inner (c .before) in
+    let inv = turn d .before .conditions .inv in
+    let none = d .before .before .terms .inv .1 in
+    (passed (turn d) (met-here (c .before)), rw none (inv .1), rw none (inv .2))
+
+-- ---- a term that is not true
+
+abbrev read-before : tie.After-at Inv-terms μ-terms Inv-conditions μ-conditions → Read
+read-before c = c .before .before .before .before .before
 
 terms-less : tie.Need-terms-less Inv-terms μ-terms Inv-conditions μ-conditions
 terms-less c =
-    let d = c .before .before .before .before .before .before in
-    rw (c .before .before .before .before .before .term-at .ensures)
-    (rest-shorter (d .before .before .before .before .before .before .before .before .before .before .before .args .sheet .now) (d .before .before .before .before .before .before .before .before .before .before .before .pre .0 .accepted) (d .before .before .terms .at .0) (record-number d) (d .before .before .terms .inv .0 .within))
+    let d = read-before c .before in
+    rw (read-before c .term-at .ensures)
+    (rest-shorter (bytes (turn d)) (accepted (turn d)) (place d) (record-number d) (walked d .within))
 
 terms-again : tie.Need-terms-again Inv-terms μ-terms Inv-conditions μ-conditions
 terms-again c =
-    let d = c .before .before .before .before .before .before in
-    let start = d .before .before .before .before .before .before .before .before .before .before .before in (
-      rw (c .before .before .before .before .before .term-at .ensures)
-          (passing-next (holds (classOf (start .args .map .lots))) (start .args .sheet .now) (start .pre .0 .accepted) (d .before .before .before .head-at .result .0) (d .before .before .terms .at .0) (d .before .before .terms .inv .0)
+    let d = read-before c .before in (
+      rw (read-before c .term-at .ensures)
+          (passing-next (holds (classOf (lots (turn d)))) (bytes (turn d)) (accepted (turn d)) (headed d .head-at .result .0) (place d) (walked d)
           (record-number d)
-          (flag (c .before .before .before .before .before) ∙ c .before .if4 .left)),
+          (flag (read-before c) ∙ c .before .if4 .left)),
       d .before .before .terms .inv .1,
     )
 
+-- ---- the end
+
+-- No condition is left;
 same-length : tie.Need-same-length Inv-terms μ-terms Inv-conditions μ-conditions
 same-length c = c .before .conditions .inv .2 .sized
 
@@ -231,32 +304,42 @@ returns : tie.Need-returns Inv-terms μ-terms Inv-conditions μ-conditions
 returns c =
     let start = c .before .before .before .before .before in
     let inv = c .before .conditions .inv in (
-      taken-by-map (start .args .map .lots) (conditions (start .args .sheet .now))
-          (none-taken (classOf (start .args .map .lots)) (start .args .sheet .now) (c .before .conditions .c) (inv .0) (omega (arith, c .if1 .taken, start .pre .0 .counted))),
+      (λ ds says.
+          sym
+          (taken-by-map (start .args .map .lots) (conditions (start .args .sheet .now))
+          (none-taken (classOf (start .args .map .lots)) (start .args .sheet .now) (c .before .conditions .c) (inv .0) (omega (arith, c .if1 .taken, start .pre .0 .counted))) ds says)),
       (tt, (inv .1, inv .2)),
     )
 
+-- or no term is left of this one, and it is taken: here alone it matters what a condition with no term counts for.
+unmet : (c : Over) → Meets (turn-of (over c)) false
+unmet c =
+    let head = over c in
+    let d = turn-of head in
+    let f = classOf (lots d) in
+    ap (λ (r : ℕ). meetsCondition f (termsFrom (bytes d) r)) (sym (head-of head))
+    ∙ some-any (holds f) (termsFrom (bytes d) (head .head-at .result .0))
+    ∙ ended (holds f) (bytes d) (accepted d) (head .head-at .result .0) (c .before .before .terms .at .0) (c .before .before .terms .inv .0) (c .if3 .taken)
+
+condition-taken : (c : Over) (ds : Decisions) → lots (turn-of (over c)) ≡ classes ds
+    → taken ds 1 (conditions (bytes (turn-of (over c)))) ≡ takes (number (turn-of (over c)) + 1) (conditionAt (bytes (turn-of (over c))) (number (turn-of (over c)) + 1))
+condition-taken c ds says =
+    let d = turn-of (over c) in
+    sym (taken-by-map (lots d) (conditions (bytes d)) (taken-here (classOf (lots d)) (bytes d) (number d) (d .before .conditions .inv .0) (numbered d) (unmet c)) ds says)
+    ∙ ap (λ (k : ℕ). takes k (conditionAt (bytes d) k)) (sym (add-one (number d)))
+
+resumes-within : (c : Over) (ds : Decisions) → lots (turn-of (over c)) ≡ classes ds
+    → ResumesWithin (bytes (turn-of (over c))) (number (turn-of (over c)) + 1) (over c .head-at .result .0) ds
+resumes-within c ds says = head-resumes ds _ _ _ (over c .head-at .ensures) (head-within (over c)) (condition-taken c ds says)
+
 same-length-2 : tie.Need-same-length-2 Inv-terms μ-terms Inv-conditions μ-conditions
-same-length-2 c = ap length (c .before .before .terms .inv .1) ∙ c .before .before .before .before .before .before .before .conditions .inv .2 .sized
+same-length-2 c = ap length (c .before .before .terms .inv .1) ∙ turn-of (over c) .before .conditions .inv .2 .sized
 
 returns-2 : tie.Need-returns-2 Inv-terms μ-terms Inv-conditions μ-conditions
 returns-2 c =
-    let start = c .before .before .before .before .before .before .before .before .before .before .before in
-    let f = classOf (start .args .map .lots) in
-    let s = start .args .sheet .now in
-    let head = c .before .before .before in
-    let outer = head .before .before .before .before in
-    let unmet = ended (holds f) s (start .pre .0 .accepted) (head .head-at .result .0) (c .before .before .terms .at .0) (c .before .before .terms .inv .0) (c .if3 .taken) in
-    let below = numbered (head .before .before .before) in (
-      rw add-one
-          (taken-by-map (start .args .map .lots) (conditions s)
-          (taken-here f s (outer .conditions .c) (outer .conditions .inv .0) below
-          (ap (λ (r : ℕ). meetsCondition f (termsFrom s r)) (sym (head-of head)) ∙ some-any (holds f) (termsFrom s (head .head-at .result .0)) ∙ unmet))),
-      (
-        (omega arith, omega (arith, below, start .pre .0 .counted)),
-        (rw (c .before .before .terms .inv .1) (outer .conditions .inv .1), rw (c .before .before .terms .inv .1) (outer .conditions .inv .2)),
-      ),
-    )
+    let inv = turn-of (over c) .before .conditions .inv in
+    let none = c .before .before .terms .inv .1 in
+    (resumes-within c, (head-within (over c), (rw none (inv .1), rw none (inv .2))))
 
 pub scan-spec : {M : Type 1} → statement M
 scan-spec =
@@ -280,8 +363,8 @@ scan-spec =
     cast-b
     array-read-shared
     array-read-shared-2
-    mul-marks
-    slice-write-marks
+    mul-levels
+    slice-write-levels
     conditions-less-2
     conditions-again-2
     conditions-less-3

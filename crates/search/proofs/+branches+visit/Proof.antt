@@ -1,30 +1,39 @@
 -- `search::visit` and `search::branches`, which call each other: whatever path the map and the pairs represent, the visit writes the records of the tree that
 -- the rule visits from there, as far as the store has room. The measure is the open "same" terms, counted by the map and the pairs: a split closes one in each
--- of its branches. The marks are of settled conditions of the levels up to the path's: a visit leaves only marks of its level and of later ones, which are taken
--- back before the apart branch.
+-- of its branches. The settled levels are of the levels up to the path's: a visit writes only its level and later ones, which are forgotten before the apart
+-- branch.
 use borrow.Author.Needs.{needs}
 use Prim.Native.Nat.{ℕ, _+_, _*_, _-_, _<_}
 use mathlib.Core.List.{List, _∷_}
+use mathlib.Core.Logic.{_⊎_, ⊎-elim}
 use mathlib.Core.Path.{_≡_, refl, sym, ap, subst, _∙_}
 use native.Mathlib.Omega.{arith}
-use lib.ListN.{length, take, drop}
+use denote.Enum.Declared.{tagOf}
+use lib.ListN.{length, set, take, drop}
 use lib.Seq.{sets}
+use Rattle.sheet.specs.Checks.{Accepted}
 use Rattle.sheet.specs.Conditions.{same, apart, conditions}
 use Rattle.equality.specs.Node.{Decisions, split, node}
 use Rattle.equality.specs.Search.{nodeRule, Tree, groupingBytes}
 use Rattle.equality.specs.Visits.{Visits}
 use Rattle.equality.proofs.Visits.{met-tree, ground-tree, split-tree}
 use Rattle.store.specs.Records.{recordLength, splitRecord, groundRecord, metRecord, encode, capacity}
+use Rattle.classes.specs.declared.Classes.{Classes}
 use Rattle.node.specs.declared.Node as declared
-use Rattle.node.specs.Resume.{nodeAs, Resumes, SplitLeaves, Leaves}
-use Rattle.node.specs.Settled.{Marked, Later}
-use Rattle.node.proofs.Settling.{later-none, later-through, later-above, restored-marked, restored-later}
+use Rattle.node.specs.declared.Place.{Place}
+use Rattle.node.specs.declared.Place.the-variants.{Scan}
+use Rattle.node.specs.Place.{nodeAs, Resumes, SplitLeaves, Leaves}
+use Rattle.node.specs.Settled.{Later}
+use Rattle.node.proofs.Settling.{later-none, later-through, later-above, restored-settled, restored-later}
 use Rattle.outcome.proofs.Fitting.{node-count}
-use Rattle.search.specs.Visited.{Standing, Explored}
+use Rattle.search.specs.declared.Visited.{Visited}
+use Rattle.search.specs.declared.Visited.the-variants.{Cannot}
+use Rattle.search.specs.Visited.{Searchable, Standing, Visitable, Splittable, Explored}
+use Rattle.search.proofs.Visited as ends
 use Rattle.search.proofs.Exploring.{none-explored, met-explored, ground-explored}
-use Rattle.search.proofs.Splitting.{split-met, split-full, split-over, split-apart}
+use Rattle.search.proofs.Splitting.{split-ended, split-over, split-apart}
 use Rattle.search.proofs.Room.{has-place, number-fits}
-use Rattle.search.proofs.Standing.{openCount, starts-within, split-number, under-marked, under-later, same-level, apart-level, level-room, pairs-within, entries-within, split-small, same-standing, same-less, pair-room, apart-standing, apart-less, untouched-through}
+use Rattle.search.proofs.Standing.{openCount, place-within, split-number, under-settled, under-later, same-level, apart-level, level-room, pairs-within, entries-within, split-small, same-standing, same-less, pair-room, apart-standing, apart-less, untouched-through}
 use borrow.Fn.Kinds.{In}
 use borrow.Fn.PlainCycle.{Measures, is, falls, and}
 use Rattle.search.proofs.branches.Reads as branches
@@ -38,7 +47,10 @@ use Rattle.classes.proofs.set_apart.Reads as set-apart-reads
 use Rattle.node.proofs.clear_above.Reads as clear-above-reads
 use Rattle.node.proofs.locate.Reads as locate-reads
 use Rattle.node.proofs.node_at.Reads as node-at-reads
+use Rattle.node.proofs.Split.apart_place.Reads as apart-place-reads
 use Rattle.node.proofs.settle.Reads as settle-reads
+use Rattle.search.proofs.Stage.in_apart.Reads as in-apart-reads
+use Rattle.search.proofs.Stage.in_same.Reads as in-same-reads
 use Rattle.search.proofs.write_grouping.Reads as write-grouping-reads
 use Rattle.store.proofs.capacity_of.Reads as capacity-of-reads
 use Rattle.store.proofs.set_next.Reads as set-next-reads
@@ -47,10 +59,10 @@ use Rattle.search.proofs.+branches+visit.{statement}
 use Rattle.search.proofs.+branches+visit.Tie.{close}
 
 abbrev μ-branches : Measures 5 branches-kinds.ps ℕ
-μ-branches κs a = 2 * openCount (a .0 .now) (a .1 .1 .0 .lots) (a .1 .1 .1 .1 .1 .1 .0 .now) (a .1 .1 .1 .0)
+μ-branches κs a = 2 * openCount (a .0 .now) (a .1 .0 .lots) (a .1 .1 .1 .1 .1 .0 .now) (a .1 .1 .1 .0)
 
 abbrev μ-visit : Measures 5 visit-kinds.ps ℕ
-μ-visit κs a = 2 * openCount (a .0 .now) (a .1 .1 .0 .lots) (a .1 .1 .1 .1 .1 .1 .0 .now) (a .1 .1 .1 .0) + 1
+μ-visit κs a = 2 * openCount (a .0 .now) (a .1 .0 .lots) (a .1 .1 .1 .1 .1 .0 .now) (a .1 .1 .1 .0) + 1
 
 abbrev branches-at : ℕ → In 5 branches-kinds.ps
 branches-at t = and 5 branches-kinds.ps (is 5 branches-kinds.ps μ-branches t) branches.Pre
@@ -71,6 +83,8 @@ branches-claims t = (
   write-reads.Learnt,
   join-reads.Asked,
   join-reads.Learnt,
+  in-same-reads.Asked,
+  in-same-reads.Learnt,
   settle-reads.Asked,
   settle-reads.Learnt,
   visit-below t,
@@ -83,6 +97,10 @@ branches-claims t = (
   set-apart-reads.Learnt,
   clear-above-reads.Asked,
   clear-above-reads.Learnt,
+  in-apart-reads.Asked,
+  in-apart-reads.Learnt,
+  apart-place-reads.Asked,
+  apart-place-reads.Learnt,
 )
 
 abbrev visit-claims : ℕ → visit-lts.Claims
@@ -101,412 +119,644 @@ visit-claims t = (
   branches.Post,
 )
 
--- ---- branches: what is known after the visit of the same branch
-
--- The split's record is written,
-branches-written : (t : ℕ) (c : branches-lts.After-visit (branches-claims t) (branches-at t) branches.Post)
-    → c .before .before .before .before .before .before .before .before .before .before .before .before .before .write .last .0
-    ≡ sets (c .before .before .before .before .before .before .before .before .before .before .before .before .before .before .before .before .before .before .before .before .before .before .args .store .now) (recordLength * c .before .before .before .before .before .before .before .before .before .before .before .before .before .before .before .before .before .before .before .before .before .before .args .before) (encode (splitRecord (c .before .before .before .before .before .before .before .before .before .before .before .before .before .before .before .before .before .before .before .before .before .before .args .on .a .0) (c .before .before .before .before .before .before .before .before .before .before .before .before .before .before .before .before .before .before .before .before .before .before .args .on .b .0) 0))
-branches-written t c =
-    let start = c .before .before .before .before .before .before .before .before .before .before .before .before .before .before .before .before .before .before .before .before .before .before in
-    let place : start .args .before + 1 - 1 ≡ start .args .before = omega arith in
-    c .before .before .before .before .before .before .before .before .before .before .before .before .before .write .ensures
-    ∙ ap (λ (k : ℕ). sets (start .args .store .now) (recordLength * k) (encode (splitRecord (start .args .on .a .0) (start .args .on .b .0) 0))) place
-
--- the branch is visited, for whatever path the map and the pairs represent,
-branches-told : (t : ℕ) (c : branches-lts.After-visit (branches-claims t) (branches-at t) branches.Post) (ds : Decisions)
-    → Standing (c .before .before .before .before .before .before .before .before .before .before .before .before .before .before .before .before .before .before .before .before .before .before .args .sheet .now) (c .before .before .before .before .before .before .before .before .before .before .before .before .before .before .before .before .before .before .before .before .before .before .args .map) (c .before .before .before .before .before .before .before .before .before .before .before .before .before .before .before .before .before .before .before .before .before .before .args .pairs .now) (c .before .before .before .before .before .before .before .before .before .before .before .before .before .before .before .before .before .before .before .before .before .before .args .count) ds
-    → node ds (conditions (c .before .before .before .before .before .before .before .before .before .before .before .before .before .before .before .before .before .before .before .before .before .before .args .sheet .now)) ≡ split (c .before .before .before .before .before .before .before .before .before .before .before .before .before .before .before .before .before .before .before .before .before .before .args .on .a .0) (c .before .before .before .before .before .before .before .before .before .before .before .before .before .before .before .before .before .before .before .before .before .before .args .on .b .0)
-    → (tree : Tree) → Visits (nodeRule (conditions (c .before .before .before .before .before .before .before .before .before .before .before .before .before .before .before .before .before .before .before .before .before .before .args .sheet .now))) (same (c .before .before .before .before .before .before .before .before .before .before .before .before .before .before .before .before .before .before .before .before .before .before .args .on .a .0) (c .before .before .before .before .before .before .before .before .before .before .before .before .before .before .before .before .before .before .before .before .before .before .args .on .b .0) ∷ ds) tree
-    → Explored (c .before .before .before .before .before .before .before .before .before .before .before .before .before .before .before .before .before .before .before .before .before .before .args .before + 1) (c .before .before .before .before .before .before .before .before .before .before .before .before .before .write .last .0) (c .visit .last .1 .1 .1 .1 .1 .1 .1 .1 .0) (c .before .before .before .before .before .before .before .before .before .before .before .before .before .before .before .before .before .before .before .before .before .before .args .grouping .now) (c .visit .last .1 .1 .1 .1 .1 .1 .1 .0) (c .visit .result) tree
-branches-told t c ds st e tree v =
-    let start = c .before .before .before .before .before .before .before .before .before .before .before .before .before .before .before .before .before .before .before .before .before .before in
-    let joined = c .before .before .before .before .before .before .before .before .before .before .join in
-    c .visit .ensures .0 _ tree
-    (same-standing st (start .pre .1 .0 .scannable .accepted) _ _ e (joined .result) (joined .ensures))
-    tt v
-
--- and it leaves marks of later levels only.
-branches-over : (t : ℕ) (c : branches-lts.After-visit (branches-claims t) (branches-at t) branches.Post) → Later (c .before .before .before .before .before .before .before .before .before .before .before .before .before .before .before .before .before .before .before .before .before .before .args .marks .now) (c .visit .last .1 .1 .1 .1 .1 .1 .1 .1 .1 .0) (c .before .before .before .before .before .before .before .before .before .before .before .before .before .before .before .before .before .before .before .before .before .before .args .level + 1)
-branches-over t c =
-    let start = c .before .before .before .before .before .before .before .before .before .before .before .before .before .before .before .before .before .before .before .before .before .before in
-    let path = start .pre .1 .3 .1 in
-    under-later (start .args .sheet .now) (start .args .map .lots) (start .args .marks .now) (start .args .on .condition .0) (start .args .on .a .0) (start .args .on .b .0) (start .args .on .after .0) (start .args .level) _
-    (path .0 .represents .lots) (start .pre .1 .2) (path .1) (path .2) (c .before .before .before .before .before .before .before .settle .last .0) (c .visit .last .1 .1 .1 .1 .1 .1 .1 .1 .1 .0)
-    (c .before .before .before .before .before .before .before .settle .ensures) (c .visit .ensures .1 .1)
-
--- ---- branches: what is known once the pair is set apart
-
-branches-apart : (t : ℕ) (c : branches-lts.After-set-apart (branches-claims t) (branches-at t) branches.Post) (ds : Decisions)
-    → Standing (c .before .before .before .before .before .before .before .before .before .before .before .before .before .before .before .before .before .before .before .before .before .before .before .before .before .before .before .before .before .before .before .before .before .before .before .before .before .before .before .before .before .before .args .sheet .now) (c .before .before .before .before .before .before .before .before .before .before .before .before .before .before .before .before .before .before .before .before .before .before .before .before .before .before .before .before .before .before .before .before .before .before .before .before .before .before .before .before .before .before .args .map) (c .before .before .before .before .before .before .before .before .before .before .before .before .before .before .before .before .before .before .before .before .before .before .before .before .before .before .before .before .before .before .before .before .before .before .before .before .before .before .before .before .before .before .args .pairs .now) (c .before .before .before .before .before .before .before .before .before .before .before .before .before .before .before .before .before .before .before .before .before .before .before .before .before .before .before .before .before .before .before .before .before .before .before .before .before .before .before .before .before .before .args .count) ds
-    → node ds (conditions (c .before .before .before .before .before .before .before .before .before .before .before .before .before .before .before .before .before .before .before .before .before .before .before .before .before .before .before .before .before .before .before .before .before .before .before .before .before .before .before .before .before .before .args .sheet .now)) ≡ split (c .before .before .before .before .before .before .before .before .before .before .before .before .before .before .before .before .before .before .before .before .before .before .before .before .before .before .before .before .before .before .before .before .before .before .before .before .before .before .before .before .before .before .args .on .a .0) (c .before .before .before .before .before .before .before .before .before .before .before .before .before .before .before .before .before .before .before .before .before .before .before .before .before .before .before .before .before .before .before .before .before .before .before .before .before .before .before .before .before .before .args .on .b .0)
-    → Standing (c .before .before .before .before .before .before .before .before .before .before .before .before .before .before .before .before .before .before .before .before .before .before .before .before .before .before .before .before .before .before .before .before .before .before .before .before .before .before .before .before .before .before .args .sheet .now) (c .before .before .before .before .before .before .before .before .before .before .before .before .before .before .before .before .before .before .before .before .before .before .before .before .before .before .before .before .before .before .before .before .before .before .before .before .before .before .before .before .before .before .args .map) (c .set-apart .last .0) (c .before .before .before .before .before .before .before .before .before .before .before .before .before .before .before .before .before .before .before .before .before .before .before .before .before .before .before .before .before .before .before .before .before .before .before .before .before .before .before .before .before .before .args .count + 1) (apart (c .before .before .before .before .before .before .before .before .before .before .before .before .before .before .before .before .before .before .before .before .before .before .before .before .before .before .before .before .before .before .before .before .before .before .before .before .before .before .before .before .before .before .args .on .a .0) (c .before .before .before .before .before .before .before .before .before .before .before .before .before .before .before .before .before .before .before .before .before .before .before .before .before .before .before .before .before .before .before .before .before .before .before .before .before .before .before .before .before .before .args .on .b .0) ∷ ds)
-branches-apart t c ds st e =
-    let same-branch = c .before .before .before .before .before .before .before .before .before .before .before .before .before .before .before .before .before .before .before .before in
-    apart-standing st (c .before .before .before .before .before .before .before .before .before .before .before .before .before .before .before .before .before .before .before .before .before .before .before .before .before .before .before .before .before .before .before .before .before .before .before .before .before .before .before .before .before .before .pre .1 .0 .scannable .accepted) _ _ e (same-branch .visit .last .1 .1 .1 .1 .1 .1 .0) (c .set-apart .last .0)
-    (same-branch .visit .kept .1 .1 .1 .1 .1 .1 .0) (same-branch .visit .ensures .1 .0) (c .set-apart .ensures)
-
-branches-add-visit : (t : ℕ) → branches-lts.Need-add-visit (branches-claims t) (branches-at t) branches.Post
-branches-add-visit t c = record { fits = omega (arith, c .before .before .before .before .before .pre .1 .1) }
-
-branches-write-requires : (t : ℕ) → branches-lts.Need-write-requires (branches-claims t) (branches-at t) branches.Post
-branches-write-requires t c κs = let start = c .before .before .before .before .before .before .before .before in
-    (has-place (start .args .store .now) (start .args .before) (start .pre .1 .1) (start .args .store .now) refl, omega (arith, split-small (start .pre .1 .3 .1 .0) (start .pre .1 .0 .scannable .accepted) _ _ (start .pre .1 .3 .1 .1)))
-
-branches-join-requires : (t : ℕ) → branches-lts.Need-join-requires (branches-claims t) (branches-at t) branches.Post
-branches-join-requires t c κs = let start = c .before .before .before .before .before .before .before .before .before .before .before in
-    split-small (start .pre .1 .3 .1 .0) (start .pre .1 .0 .scannable .accepted) _ _ (start .pre .1 .3 .1 .1)
-
-branches-add-settle : (t : ℕ) → branches-lts.Need-add-settle (branches-claims t) (branches-at t) branches.Post
-branches-add-settle t c = let start = c .before .before .before .before .before .before .before .before .before .before .before .before .before .before in
-    let path = start .pre .1 .3 .1 in
-    record { fits = omega (arith, level-room (path .0) (start .pre .1 .0 .scannable .accepted) _ _ (path .1) (start .args .level) (path .3)) }
-
-branches-settle-requires : (t : ℕ) → branches-lts.Need-settle-requires (branches-claims t) (branches-at t) branches.Post
-branches-settle-requires t c κs = let start = c .before .before .before .before .before .before .before .before .before .before .before .before .before .before in
-    let path = start .pre .1 .3 .1 in
-    let number = split-number (start .args .sheet .now) (start .args .on .condition .0) (start .args .on .a .0) (start .args .on .b .0) (start .args .on .after .0) _ (path .2) in
-    (number .0, omega (arith, number .1, start .pre .1 .2 .sized))
-
-branches-add-visit-2 : (t : ℕ) → branches-lts.Need-add-visit-2 (branches-claims t) (branches-at t) branches.Post
-branches-add-visit-2 t c = record { fits = omega (arith, c .before .before .before .before .before .before .before .before .before .before .before .before .before .before .before .before .before .pre .1 .1) }
-
-branches-add-visit-3 : (t : ℕ) → branches-lts.Need-add-visit-3 (branches-claims t) (branches-at t) branches.Post
-branches-add-visit-3 t c = let start = c .before .before .before .before .before .before .before .before .before .before .before .before .before .before .before .before .before .before .before .before .before in
-    let path = start .pre .1 .3 .1 in
-    record { fits = omega (arith, level-room (path .0) (start .pre .1 .0 .scannable .accepted) _ _ (path .1) (start .args .level) (path .3)) }
-
-branches-visit-requires : (t : ℕ) → branches-lts.Need-visit-requires (branches-claims t) (branches-at t) branches.Post
-branches-visit-requires t c κs = let start = c .before .before .before .before .before .before .before .before .before .before .before .before .before .before .before .before .before .before .before .before .before in
-    let joined = c .before .before .before .before .before .before .before .before .before .join in
-    let settled = c .before .before .before .before .before .before .settle in
-    let ok = start .pre .1 .0 .scannable .accepted in
-    let path = start .pre .1 .3 .1 in (
-      omega (arith, start .pre .0, same-less (path .0) ok _ _ (path .1) (joined .result) (joined .ensures)),
-      (
-        start .pre .1 .0,
-        under-marked (start .args .sheet .now) (start .args .map .lots) (start .args .marks .now) (start .args .on .condition .0) (start .args .on .a .0) (start .args .on .b .0) (start .args .on .after .0) (start .args .level) _
-            (path .0 .represents .lots) (start .pre .1 .2) (path .1) (path .2) (joined .result .lots) (settled .last .0) (joined .ensures) (settled .ensures),
-        (_, (same-standing (path .0) ok _ _ (path .1) (joined .result) (joined .ensures), tt, same-level (path .0) ok _ _ (path .1) (start .args .level) (path .3))),
-      ),
-    )
-
-branches-enum-known-under-same : (t : ℕ) → branches-lts.Need-enum-known-under-same (branches-claims t) (branches-at t) branches.Post
-branches-enum-known-under-same t c = search needs
-
-branches-enum-told : (t : ℕ) → branches-lts.Need-enum-told (branches-claims t) (branches-at t) branches.Post
-branches-enum-told t c = search needs
-
-branches-enum-known-under-same-2 : (t : ℕ) → branches-lts.Need-enum-known-under-same-2 (branches-claims t) (branches-at t) branches.Post
-branches-enum-known-under-same-2 t c = search needs
-
-branches-capacity-of-requires : (t : ℕ) → branches-lts.Need-capacity-of-requires (branches-claims t) (branches-at t) branches.Post
-branches-capacity-of-requires t c κs = search needs
-
-branches-cast-if1 : (t : ℕ) → branches-lts.Need-cast-if1 (branches-claims t) (branches-at t) branches.Post
-branches-cast-if1 t c = search needs
-
-branches-same-length : (t : ℕ) → branches-lts.Need-same-length (branches-claims t) (branches-at t) branches.Post
-branches-same-length t c = search needs
-
-branches-same-length-2 : (t : ℕ) → branches-lts.Need-same-length-2 (branches-claims t) (branches-at t) branches.Post
-branches-same-length-2 t c = search needs
-
-branches-same-length-3 : (t : ℕ) → branches-lts.Need-same-length-3 (branches-claims t) (branches-at t) branches.Post
-branches-same-length-3 t c = search needs
-
-branches-same-length-4 : (t : ℕ) → branches-lts.Need-same-length-4 (branches-claims t) (branches-at t) branches.Post
-branches-same-length-4 t c = let same-branch = c .before .before .before .before .before .before .before .before .before .before .before .before .before .before in branches-over t same-branch .sized
-
-branches-returns : (t : ℕ) → branches-lts.Need-returns (branches-claims t) (branches-at t) branches.Post
-branches-returns t c = let same-branch = c .before .before .before .before .before .before .before .before .before .before .before .before .before .before in
-    let start = same-branch .before .before .before .before .before .before .before .before .before .before .before .before .before .before .before .before .before .before .before .before .before .before in
-    let under-same = c .before .before .before .before .under-same2 in (
-      (λ ds tree st e res v.
-          split-over (split-tree v e) (start .args .before) (start .args .store .now) _ _ (start .args .grouping .now) _
-          (branches-written t same-branch) _ (branches-told t same-branch ds st e) (under-same .given .0 .0) (under-same .given .1)
-          (omega (arith, c .before .capacity-of .ensures, c .if1 .taken))),
-      (same-branch .visit .ensures .1 .0, later-above _ _ _ (branches-over t same-branch)),
-    )
-
-branches-add-t49 : (t : ℕ) → branches-lts.Need-add-t49 (branches-claims t) (branches-at t) branches.Post
-branches-add-t49 t c = search needs
-
-branches-set-next-requires : (t : ℕ) → branches-lts.Need-set-next-requires (branches-claims t) (branches-at t) branches.Post
-branches-set-next-requires t c κs = let same-branch = c .before .before .before .before .before .before .before .before .before .before .before .before .before .before .before in
-    let start = same-branch .before .before .before .before .before .before .before .before .before .before .before .before .before .before .before .before .before .before .before .before .before .before in (
-      has-place (start .args .store .now) _ (start .pre .1 .1) _ (same-branch .visit .kept .1 .1 .1 .1 .1 .1 .1 .1 .0 ∙ same-branch .before .before .before .before .before .before .before .before .before .before .before .before .before .write .kept .0),
-      number-fits (same-branch .visit .last .1 .1 .1 .1 .1 .1 .1 .1 .0) _ (omega (arith, c .before .before .capacity-of .ensures, c .before .if1 .left)),
-    )
-
-branches-set-apart-requires : (t : ℕ) → branches-lts.Need-set-apart-requires (branches-claims t) (branches-at t) branches.Post
-branches-set-apart-requires t c κs = let same-branch = c .before .before .before .before .before .before .before .before .before .before .before .before .before .before .before .before .before .before .before in
-    let start = same-branch .before .before .before .before .before .before .before .before .before .before .before .before .before .before .before .before .before .before .before .before .before .before in
-    let path = start .pre .1 .3 .1 in
-    let ok = start .pre .1 .0 .scannable .accepted in
-    let small = split-small (path .0) ok _ _ (path .1) in
-    (omega (arith, pair-room (path .0) ok _ _ (path .1), same-branch .visit .kept .1 .1 .1 .1 .1 .1 .0), small .0, small .1)
-
-branches-clear-above-requires : (t : ℕ) → branches-lts.Need-clear-above-requires (branches-claims t) (branches-at t) branches.Post
-branches-clear-above-requires t c κs = search needs
-
-branches-add-visit-4 : (t : ℕ) → branches-lts.Need-add-visit-4 (branches-claims t) (branches-at t) branches.Post
-branches-add-visit-4 t c = let start = c .before .before .before .before .before .before .before .before .before .before .before .before .before .before .before .before .before .before .before .before .before .before .before .before .before .before .before .before .before .before .before .before .before .before .before .before .before .before .before .before .before .before .before .before .before .before .before .before .before in
-    let path = start .pre .1 .3 .1 .0 in
-    record { fits = omega (arith, path .room, path .size) }
-
-branches-visit-requires-2 : (t : ℕ) → branches-lts.Need-visit-requires-2 (branches-claims t) (branches-at t) branches.Post
-branches-visit-requires-2 t c κs = let turned = c .before .before .before .before .before .before .before .before .before .before .before in
-    let cleared = c .before .before .before .before .before .before .before .clear-above in
-    let same-branch = turned .before .before .before .before .before .before .before .before .before .before .before .before .before .before .before .before .before .before .before .before in
-    let start = same-branch .before .before .before .before .before .before .before .before .before .before .before .before .before .before .before .before .before .before .before .before .before .before in
-    let path = start .pre .1 .3 .1 in
-    let ok = start .pre .1 .0 .scannable .accepted in
-    let fewer = apart-less (path .0) ok _ _ (path .1) (same-branch .visit .last .1 .1 .1 .1 .1 .1 .0) (turned .set-apart .last .0)
-    (same-branch .visit .kept .1 .1 .1 .1 .1 .1 .0) (same-branch .visit .ensures .1 .0) (turned .set-apart .ensures) in (
-      omega (arith, start .pre .0, fewer),
-      (
-        record { scannable = start .pre .1 .0 .scannable; lots = omega (arith, start .pre .1 .0 .lots, same-branch .visit .kept .1 .1 .1 .1 .1 .1 .1 .0) },
-        restored-marked (start .args .map .lots) (start .args .sheet .now) (start .args .marks .now) (same-branch .visit .last .1 .1 .1 .1 .1 .1 .1 .1 .1 .0) (cleared .last .0) (start .args .level) (start .pre .1 .2) (branches-over t same-branch) (cleared .ensures),
-        (_, (branches-apart t turned _ (path .0) (path .1), path .2, apart-level (path .0) ok _ _ (path .1) (start .args .level) (path .3))),
-      ),
-    )
-
-branches-same-length-5 : (t : ℕ) → branches-lts.Need-same-length-5 (branches-claims t) (branches-at t) branches.Post
-branches-same-length-5 t c = search needs
-
-branches-same-length-6 : (t : ℕ) → branches-lts.Need-same-length-6 (branches-claims t) (branches-at t) branches.Post
-branches-same-length-6 t c = search needs
-
-branches-same-length-7 : (t : ℕ) → branches-lts.Need-same-length-7 (branches-claims t) (branches-at t) branches.Post
-branches-same-length-7 t c = search needs
-
-branches-same-length-8 : (t : ℕ) → branches-lts.Need-same-length-8 (branches-claims t) (branches-at t) branches.Post
-branches-same-length-8 t c = let same-branch = c .before .before .before .before .before .before .before .before .before .before .before in branches-over t same-branch .sized
-
-branches-returns-2 : (t : ℕ) → branches-lts.Need-returns-2 (branches-claims t) (branches-at t) branches.Post
-branches-returns-2 t c = let same-branch = c .before .before .before .before .before .before .before .before .before .before .before in
-    let start = same-branch .before .before .before .before .before .before .before .before .before .before .before .before .before .before .before .before .before .before .before .before .before .before in
-    let under-same = c .before .under-same in (
-      (λ ds tree st e res v.
-          split-met (split-tree v e) (start .args .before) (start .args .store .now) _ _ (start .args .grouping .now) _
-          (branches-written t same-branch) _ (branches-told t same-branch ds st e) (under-same .given .0 .0) (under-same .given .1)),
-      (same-branch .visit .ensures .1 .0, later-above _ _ _ (branches-over t same-branch)),
-    )
-
-branches-same-length-9 : (t : ℕ) → branches-lts.Need-same-length-9 (branches-claims t) (branches-at t) branches.Post
-branches-same-length-9 t c = search needs
-
-branches-same-length-10 : (t : ℕ) → branches-lts.Need-same-length-10 (branches-claims t) (branches-at t) branches.Post
-branches-same-length-10 t c = search needs
-
-branches-same-length-11 : (t : ℕ) → branches-lts.Need-same-length-11 (branches-claims t) (branches-at t) branches.Post
-branches-same-length-11 t c = search needs
-
-branches-same-length-12 : (t : ℕ) → branches-lts.Need-same-length-12 (branches-claims t) (branches-at t) branches.Post
-branches-same-length-12 t c = let same-branch = c .before .before .before .before .before .before .before .before .before .before in branches-over t same-branch .sized
-
-branches-returns-3 : (t : ℕ) → branches-lts.Need-returns-3 (branches-claims t) (branches-at t) branches.Post
-branches-returns-3 t c = let same-branch = c .before .before .before .before .before .before .before .before .before .before in
-    let start = same-branch .before .before .before .before .before .before .before .before .before .before .before .before .before .before .before .before .before .before .before .before .before .before in (
-      (λ ds tree st e res v.
-          split-full (split-tree v e) (start .args .before) (start .args .store .now) _ _ (start .args .grouping .now) _
-          (branches-written t same-branch) _ (branches-told t same-branch ds st e) (c .enum-told .given .1)),
-      (same-branch .visit .ensures .1 .0, later-above _ _ _ (branches-over t same-branch)),
-    )
-
-branches-same-length-13 : (t : ℕ) → branches-lts.Need-same-length-13 (branches-claims t) (branches-at t) branches.Post
-branches-same-length-13 t c = c .before .before .before .before .before .before .before .before .visit2 .kept .1 .1 .1 .1 .1 .1 .0 ∙ c .before .before .before .before .before .before .before .before .before .before .before .before .before .before .before .before .before .before .before .before .set-apart .kept .0 ∙ c .before .before .before .before .before .before .before .before .before .before .before .before .before .before .before .before .before .before .before .before .before .before .before .before .before .before .before .before .before .before .before .before .before .before .before .before .before .before .before .before .visit .kept .1 .1 .1 .1 .1 .1 .0
-
-branches-same-length-14 : (t : ℕ) → branches-lts.Need-same-length-14 (branches-claims t) (branches-at t) branches.Post
-branches-same-length-14 t c = c .before .before .before .before .before .before .before .before .visit2 .kept .1 .1 .1 .1 .1 .1 .1 .0 ∙ c .before .before .before .before .before .before .before .before .before .before .before .before .before .before .before .before .before .before .before .before .before .before .before .before .before .before .before .before .before .before .before .before .before .before .before .before .before .before .before .before .visit .kept .1 .1 .1 .1 .1 .1 .1 .0
-
-branches-same-length-15 : (t : ℕ) → branches-lts.Need-same-length-15 (branches-claims t) (branches-at t) branches.Post
-branches-same-length-15 t c = c .before .before .before .before .before .before .before .before .visit2 .kept .1 .1 .1 .1 .1 .1 .1 .1 .0 ∙ c .before .before .before .before .before .before .before .before .before .before .before .before .before .before .before .before .before .before .before .before .before .before .before .before .set-next .kept .0 ∙ c .before .before .before .before .before .before .before .before .before .before .before .before .before .before .before .before .before .before .before .before .before .before .before .before .before .before .before .before .before .before .before .before .before .before .before .before .before .before .before .before .visit .kept .1 .1 .1 .1 .1 .1 .1 .1 .0 ∙ c .before .before .before .before .before .before .before .before .before .before .before .before .before .before .before .before .before .before .before .before .before .before .before .before .before .before .before .before .before .before .before .before .before .before .before .before .before .before .before .before .before .before .before .before .before .before .before .before .before .before .before .before .before .write .kept .0
-
-branches-same-length-16 : (t : ℕ) → branches-lts.Need-same-length-16 (branches-claims t) (branches-at t) branches.Post
-branches-same-length-16 t c = let same-branch = c .before .before .before .before .before .before .before .before .before .before .before .before .before .before .before .before .before .before .before .before .before .before .before .before .before .before .before .before .before .before .before .before .before .before .before .before .before .before .before .before in
-    c .before .before .before .before .before .before .before .before .visit2 .kept .1 .1 .1 .1 .1 .1 .1 .1 .1 .0 ∙ c .before .before .before .before .before .before .before .before .before .before .before .before .before .before .before .before .clear-above .kept .0 ∙ branches-over t same-branch .sized
-
-branches-returns-4 : (t : ℕ) → branches-lts.Need-returns-4 (branches-claims t) (branches-at t) branches.Post
-branches-returns-4 t c = let apart-branch = c .before .before .before .before .before .before .before .before .visit2 in
-    let turned = c .before .before .before .before .before .before .before .before .before .before .before .before .before .before .before .before .before .before .before .before in
-    let cleared = c .before .before .before .before .before .before .before .before .before .before .before .before .before .before .before .before .clear-above in
-    let next = c .before .before .before .before .before .before .before .before .before .before .before .before .before .before .before .before .before .before .before .before .before .before .before .before .set-next in
-    let under-same = c .before .before .before .before .before .before .before .before .before .before .before .before .before .before .before .before .before .before .before .before .before .before .before .before .before .before .before .before .before .before .under-same2 .given in
-    let same-branch = c .before .before .before .before .before .before .before .before .before .before .before .before .before .before .before .before .before .before .before .before .before .before .before .before .before .before .before .before .before .before .before .before .before .before .before .before .before .before .before .before in
-    let start = same-branch .before .before .before .before .before .before .before .before .before .before .before .before .before .before .before .before .before .before .before .before .before .before in (
-      (λ ds tree st e res v.
-          split-apart (split-tree v e) (start .args .before) (start .args .store .now) _ (same-branch .visit .last .1 .1 .1 .1 .1 .1 .1 .1 .0) (start .args .grouping .now) _
-          (branches-written t same-branch) _ (branches-told t same-branch ds st e) (under-same .0 .0) (under-same .1)
-          (next .last .0) _ _ _
-          (next .ensures)
-          (λ u w. apart-branch .ensures .0 _ u (branches-apart t turned ds st e) res w)),
-      (
-        untouched-through (start .args .pairs .now) (same-branch .visit .last .1 .1 .1 .1 .1 .1 .0) (turned .set-apart .last .0) (apart-branch .last .1 .1 .1 .1 .1 .1 .0) (start .args .count) (start .args .on .a .0) (start .args .on .b .0)
-            (same-branch .visit .ensures .1 .0) (turned .set-apart .ensures) (apart-branch .ensures .1 .0),
-        later-through (start .args .marks .now) (cleared .last .0) (apart-branch .last .1 .1 .1 .1 .1 .1 .1 .1 .1 .0) (start .args .level)
-            (restored-later (start .args .map .lots) (start .args .sheet .now) (start .args .marks .now) (same-branch .visit .last .1 .1 .1 .1 .1 .1 .1 .1 .1 .0) (cleared .last .0) (start .args .level) (start .pre .1 .2) (branches-over t same-branch) (cleared .ensures))
-            (apart-branch .ensures .1 .1),
-      ),
-    )
-
--- ---- visit: what is known of the node
-
--- Room for its record,
-visit-room : (t : ℕ) (c : visit-lts.Else1 (visit-claims t) (visit-at t) visit.Post) → c .before .before .before .before .before .before .before .before .args .before < capacity (c .before .before .before .before .before .before .before .before .args .store .now)
-visit-room t c = omega (arith, c .before .capacity-of .ensures, c .if1 .left)
-
--- and what kind it is, for whatever path the map and the pairs represent.
-visit-node : (t : ℕ) (c : visit-lts.After-node-at (visit-claims t) (visit-at t) visit.Post) (ds : Decisions)
-    → Standing (c .before .before .before .before .before .before .before .before .before .before .before .before .before .before .args .sheet .now) (c .before .before .before .before .before .before .before .before .before .before .before .before .before .before .args .map) (c .before .before .before .before .before .before .before .before .before .before .before .before .before .before .args .pairs .now) (c .before .before .before .before .before .before .before .before .before .before .before .before .before .before .args .count) ds
-    → Resumes (c .before .before .before .before .before .before .before .before .before .before .before .before .before .before .args .sheet .now) (c .before .before .before .before .before .before .before .before .before .before .before .before .before .before .args .from) ds
-    → node ds (conditions (c .before .before .before .before .before .before .before .before .before .before .before .before .before .before .args .sheet .now)) ≡ nodeAs (c .node-at .result)
-visit-node t c ds st res = sym (c .node-at .ensures .0 ds (st .represents) (c .before .before .before .before .locate .ensures .0 ds (st .represents .lots) res))
-
--- A split says where its apart branch goes on.
-visit-leaves : (t : ℕ) (c : visit-lts.After-node-at (visit-claims t) (visit-at t) visit.Post) (ds : Decisions)
-    → Standing (c .before .before .before .before .before .before .before .before .before .before .before .before .before .before .args .sheet .now) (c .before .before .before .before .before .before .before .before .before .before .before .before .before .before .args .map) (c .before .before .before .before .before .before .before .before .before .before .before .before .before .before .args .pairs .now) (c .before .before .before .before .before .before .before .before .before .before .before .before .before .before .args .count) ds
-    → Resumes (c .before .before .before .before .before .before .before .before .before .before .before .before .before .before .args .sheet .now) (c .before .before .before .before .before .before .before .before .before .before .before .before .before .before .args .from) ds
-    → (kind : declared.Node) → c .node-at .result ≡ kind → Leaves (c .before .before .before .before .before .before .before .before .before .before .before .before .before .before .args .sheet .now) kind ds
-visit-leaves t c ds st res kind e =
-    subst (λ (n : declared.Node). Leaves (c .before .before .before .before .before .before .before .before .before .before .before .before .before .before .args .sheet .now) n ds) e (c .node-at .ensures .1 ds (st .represents) (c .before .before .before .before .locate .ensures .0 ds (st .represents .lots) res))
-
-visit-capacity-of-requires : (t : ℕ) → visit-lts.Need-capacity-of-requires (visit-claims t) (visit-at t) visit.Post
-visit-capacity-of-requires t c κs = search needs
-
-visit-same-length : (t : ℕ) → visit-lts.Need-same-length (visit-claims t) (visit-at t) visit.Post
-visit-same-length t c = search needs
-
-visit-returns : (t : ℕ) → visit-lts.Need-returns (visit-claims t) (visit-at t) visit.Post
-visit-returns t c = let start = c .before .before .before .before .before .before .before .before in (
-  (λ ds tree st res v.
-      none-explored (start .args .before) (start .args .store .now) (start .args .store .now) (start .args .grouping .now) tree
-      (omega (arith, node-count tree, c .before .capacity-of .ensures, c .if1 .taken))),
-  ((λ i h. refl), later-none _ _),
-)
-
-visit-locate-requires : (t : ℕ) → visit-lts.Need-locate-requires (visit-claims t) (visit-at t) visit.Post
-visit-locate-requires t c κs = let start = c .before .before .before .before .before .before .before .before .before in
-    let path = start .pre .1 .2 in
-    (start .pre .1 .0 .scannable, starts-within (start .args .sheet .now) (start .args .from) (path .0) (path .1 .1), start .pre .1 .1)
-
-visit-node-at-requires : (t : ℕ) → visit-lts.Need-node-at-requires (visit-claims t) (visit-at t) visit.Post
-visit-node-at-requires t c κs = let start = c .before .before .before .before .before .before .before .before .before .before .before .before .before in
-    (start .pre .1 .0 .scannable, pairs-within (start .pre .1 .2 .1 .0), c .before .before .before .locate .ensures .1 .0)
-
-visit-enum-told : (t : ℕ) → visit-lts.Need-enum-told (visit-claims t) (visit-at t) visit.Post
-visit-enum-told t c = search needs
-
-visit-add-t29 : (t : ℕ) → visit-lts.Need-add-t29 (visit-claims t) (visit-at t) visit.Post
-visit-add-t29 t c = search needs
-
-visit-write-requires : (t : ℕ) → visit-lts.Need-write-requires (visit-claims t) (visit-at t) visit.Post
-visit-write-requires t c κs = let start = c .before .before .before .before .before .before .before .before .before .before .before .before .before .before .before .before .before in
-    (has-place (start .args .store .now) (start .args .before) (visit-room t (c .before .before .before .before .before .before .before .before .before)) (start .args .store .now) refl, tt)
-
-visit-write-grouping-requires : (t : ℕ) → visit-lts.Need-write-grouping-requires (visit-claims t) (visit-at t) visit.Post
-visit-write-grouping-requires t c κs = let start = c .before .before .before .before .before .before .before .before .before .before .before .before .before .before .before .before .before .before .before .before .before in
-    (start .pre .1 .0 .lots, entries-within (start .pre .1 .2 .1 .0))
-
-visit-add-t29-2 : (t : ℕ) → visit-lts.Need-add-t29-2 (visit-claims t) (visit-at t) visit.Post
-visit-add-t29-2 t c = search needs
-
-visit-enum-known-node : (t : ℕ) → visit-lts.Need-enum-known-node (visit-claims t) (visit-at t) visit.Post
-visit-enum-known-node t c = search needs
-
-visit-add-t37 : (t : ℕ) → visit-lts.Need-add-t37 (visit-claims t) (visit-at t) visit.Post
-visit-add-t37 t c = search needs
-
-visit-write-requires-2 : (t : ℕ) → visit-lts.Need-write-requires-2 (visit-claims t) (visit-at t) visit.Post
-visit-write-requires-2 t c κs = let start = c .before .before .before .before .before .before .before .before .before .before .before .before .before .before .before .before .before .before in
-    (has-place (start .args .store .now) (start .args .before) (visit-room t (c .before .before .before .before .before .before .before .before .before .before)) (start .args .store .now) refl, search needs)
-
-visit-add-t37-2 : (t : ℕ) → visit-lts.Need-add-t37-2 (visit-claims t) (visit-at t) visit.Post
-visit-add-t37-2 t c = search needs
-
-visit-enum-known-node-2 : (t : ℕ) → visit-lts.Need-enum-known-node-2 (visit-claims t) (visit-at t) visit.Post
-visit-enum-known-node-2 t c = search needs
-
-visit-branches-requires : (t : ℕ) → visit-lts.Need-branches-requires (visit-claims t) (visit-at t) visit.Post
-visit-branches-requires t c κs = let start = c .before .before .before .before .before .before .before .before .before .before .before .before .before .before .before .before .before .before .before .before .before in
-    let path = start .pre .1 .2 in
-    let found = c .before .before .before .before .before .before .before in
-    let kind = c .before .before .before .before .before .node2 .given .1 in (
-      omega (arith, start .pre .0),
-      (
-        start .pre .1 .0,
-        visit-room t (c .before .before .before .before .before .before .before .before .before .before .before .before .before),
-        c .before .before .before .before .before .before .before .before .before .before .before .locate .ensures .1 .1 .0,
-        (path .0, (path .1 .0, visit-node t found (path .0) (path .1 .0) (path .1 .1) ∙ ap nodeAs kind, visit-leaves t found (path .0) (path .1 .0) (path .1 .1) _ kind, path .1 .2)),
-      ),
-    )
-
-visit-same-length-2 : (t : ℕ) → visit-lts.Need-same-length-2 (visit-claims t) (visit-at t) visit.Post
-visit-same-length-2 t c = search needs
-
-visit-same-length-3 : (t : ℕ) → visit-lts.Need-same-length-3 (visit-claims t) (visit-at t) visit.Post
-visit-same-length-3 t c = search needs
-
-visit-same-length-4 : (t : ℕ) → visit-lts.Need-same-length-4 (visit-claims t) (visit-at t) visit.Post
-visit-same-length-4 t c = search needs
-
-visit-same-length-5 : (t : ℕ) → visit-lts.Need-same-length-5 (visit-claims t) (visit-at t) visit.Post
-visit-same-length-5 t c = search needs
-
-visit-returns-2 : (t : ℕ) → visit-lts.Need-returns-2 (visit-claims t) (visit-at t) visit.Post
-unfolding groupingBytes
-visit-returns-2 t c = let start = c .before .before .before .before .before .before .before .before .before .before .before .before .before .before .before .before .before .before .before .before .before .before .before .before in
-    let place : start .args .before + 1 - 1 ≡ start .args .before = omega arith in
-    let found = c .before .before .before .before .before .before .before .before .before .before in (
-      (λ ds tree st res v.
-          met-explored (start .args .before) (start .args .store .now) _ (start .args .grouping .now) (visit-room t (c .before .before .before .before .before .before .before .before .before .before .before .before .before .before .before .before)) ds _ tree
-          (met-tree v (visit-node t found ds st res ∙ ap nodeAs (c .before .before .before .before .before .before .before .before .enum-told .given .1)))
-          (c .before .before .before .before .before .before .write .ensures ∙ ap (λ (k : ℕ). sets (start .args .store .now) (recordLength * k) (encode metRecord)) place)
-          (c .before .before .write-grouping .ensures ∙ ap (λ (lots : List ℕ). take (length (start .args .grouping .now)) (drop 1 lots)) (st .represents .lots))),
-      ((λ i h. refl), c .before .before .before .before .before .before .before .before .before .before .before .before .before .before .locate .ensures .1 .1 .1),
-    )
-
-visit-same-length-6 : (t : ℕ) → visit-lts.Need-same-length-6 (visit-claims t) (visit-at t) visit.Post
-visit-same-length-6 t c = search needs
-
-visit-same-length-7 : (t : ℕ) → visit-lts.Need-same-length-7 (visit-claims t) (visit-at t) visit.Post
-visit-same-length-7 t c = search needs
-
-visit-same-length-8 : (t : ℕ) → visit-lts.Need-same-length-8 (visit-claims t) (visit-at t) visit.Post
-visit-same-length-8 t c = search needs
-
-visit-returns-3 : (t : ℕ) → visit-lts.Need-returns-3 (visit-claims t) (visit-at t) visit.Post
-visit-returns-3 t c = let start = c .before .before .before .before .before .before .before .before .before .before .before .before .before .before .before .before .before .before .before .before .before in
-    let place : start .args .before + 1 - 1 ≡ start .args .before = omega arith in
-    let found = c .before .before .before .before .before .before .before in
-    let condition = c .before .before .before .before .before .node .given in (
-      (λ ds tree st res v.
-          ground-explored (start .args .before) (start .args .store .now) _ (start .args .grouping .now) (visit-room t (c .before .before .before .before .before .before .before .before .before .before .before .before .before)) (condition .0 .0 .0) tree
-          (ground-tree v (visit-node t found ds st res ∙ ap nodeAs (condition .1)))
-          (c .before .before .write2 .ensures ∙ ap (λ (k : ℕ). sets (start .args .store .now) (recordLength * k) (encode (groundRecord (condition .0 .0 .0)))) place)),
-      ((λ i h. refl), c .before .before .before .before .before .before .before .before .before .before .before .locate .ensures .1 .1 .1),
-    )
-
-visit-same-length-9 : (t : ℕ) → visit-lts.Need-same-length-9 (visit-claims t) (visit-at t) visit.Post
-visit-same-length-9 t c = search needs
-
-visit-same-length-10 : (t : ℕ) → visit-lts.Need-same-length-10 (visit-claims t) (visit-at t) visit.Post
-visit-same-length-10 t c = search needs
-
-visit-same-length-11 : (t : ℕ) → visit-lts.Need-same-length-11 (visit-claims t) (visit-at t) visit.Post
-visit-same-length-11 t c = search needs
-
-visit-same-length-12 : (t : ℕ) → visit-lts.Need-same-length-12 (visit-claims t) (visit-at t) visit.Post
-visit-same-length-12 t c = search needs
-
-visit-returns-4 : (t : ℕ) → visit-lts.Need-returns-4 (visit-claims t) (visit-at t) visit.Post
-visit-returns-4 t c = let under = c .before .before .before .before .before .before .before .before .branches in
-    let kind = c .before .before .before .before .before .before .before .before .before .before .before .before .before .before .node2 .given .1 in
-    let found = c .before .before .before .before .before .before .before .before .before .before .before .before .before .before .before .before in (
-      (λ ds tree st res v. under .ensures .0 ds tree st (visit-node t found ds st res ∙ ap nodeAs kind) (visit-leaves t found ds st res _ kind) v),
-      (under .ensures .1 .0, later-through _ _ _ _ (c .before .before .before .before .before .before .before .before .before .before .before .before .before .before .before .before .before .before .before .before .locate .ensures .1 .1 .1) (under .ensures .1 .1)),
-    )
+-- ---- branches: the places of the code
+
+module _ (t : ℕ) where
+  abbrev Begun : Type 0
+  Begun = branches-lts.Start (branches-claims t) (branches-at t) branches.Post
+
+  -- where the split's record is written,
+  abbrev Written : Type 0
+  Written = branches-lts.After-write (branches-claims t) (branches-at t) branches.Post
+
+  -- where its condition is settled,
+  abbrev Noted : Type 0
+  Noted = branches-lts.After-settle (branches-claims t) (branches-at t) branches.Post
+
+  -- where the same branch is visited,
+  abbrev Same : Type 0
+  Same = branches-lts.After-visit (branches-claims t) (branches-at t) branches.Post
+
+  -- where it is over, and nothing was met,
+  abbrev Over : Type 0
+  Over = branches-lts.After-known-told (branches-claims t) (branches-at t) branches.Post
+
+  -- where there is room for the apart branch,
+  abbrev Roomy : Type 0
+  Roomy = branches-lts.Else1 (branches-claims t) (branches-at t) branches.Post
+
+  -- where the split's next is set,
+  abbrev Nexted : Type 0
+  Nexted = branches-lts.After-set-next (branches-claims t) (branches-at t) branches.Post
+
+  -- where its pair is set apart,
+  abbrev Apart : Type 0
+  Apart = branches-lts.After-set-apart (branches-claims t) (branches-at t) branches.Post
+
+  -- where the later levels are forgotten,
+  abbrev Cleared : Type 0
+  Cleared = branches-lts.After-clear-above (branches-claims t) (branches-at t) branches.Post
+
+  -- where the apart branch is at hand, and where it is visited.
+  abbrev Turned : Type 0
+  Turned = branches-lts.After-apart-place (branches-claims t) (branches-at t) branches.Post
+
+  abbrev Done : Type 0
+  Done = branches-lts.After-visit2 (branches-claims t) (branches-at t) branches.Post
+
+  -- From each the places before it.
+  abbrev written-begun : Written → Begun
+  written-begun c = c .before .before .before .before .before .before .before .before .before .before
+
+  abbrev joined : Noted → branches-lts.After-join (branches-claims t) (branches-at t) branches.Post
+  joined c = c .before .before .before .before
+
+  abbrev stepped : Noted → branches-lts.After-in-same (branches-claims t) (branches-at t) branches.Post
+  stepped c = c .before .before .before
+
+  abbrev written : Noted → Written
+  written c = joined c .before .before .before
+
+  abbrev begun : Noted → Begun
+  begun c = written-begun (written c)
+
+  abbrev noted : Same → Noted
+  noted c = c .before .before .before .before .before .before .before
+
+  abbrev same-begun : Same → Begun
+  same-begun c = begun (noted c)
+
+  abbrev over-same : Over → Same
+  over-same c = c .before .before .before .before .before .before .before .before .before .before .before
+
+  abbrev roomy-over : Roomy → Over
+  roomy-over c = c .before .before .before
+
+  abbrev nexted-roomy : Nexted → Roomy
+  nexted-roomy c = c .before .before
+
+  abbrev apart-nexted : Apart → Nexted
+  apart-nexted c = c .before .before .before .before
+
+  abbrev apart-same : Apart → Same
+  apart-same c = over-same (roomy-over (nexted-roomy (apart-nexted c)))
+
+  abbrev cleared-apart : Cleared → Apart
+  cleared-apart c = c .before .before .before .before
+
+  abbrev turned-cleared : Turned → Cleared
+  turned-cleared c = c .before .before .before .before
+
+  abbrev turned-begun : Turned → Begun
+  turned-begun c = same-begun (apart-same (cleared-apart (turned-cleared c)))
+
+  abbrev done-turned : Done → Turned
+  done-turned c = c .before .before .before .before .before
+
+  -- ---- what is there
+
+  abbrev bytes : Begun → List ℕ
+  bytes c = c .args .sheet .now
+
+  abbrev accepted : (c : Begun) → Accepted (bytes c)
+  accepted c = c .pre .1 .0 .scannable .accepted
+
+  abbrev able : (c : Begun) → Splittable (bytes c) (c .args .map) (c .args .on) (c .args .count) (c .args .at .level) (c .args .pairs .now) (c .args .levels .now)
+  able c = c .pre .1 .2
+
+  abbrev lot-a : Begun → ℕ
+  lot-a c = c .args .on .a .0
+
+  abbrev lot-b : Begun → ℕ
+  lot-b c = c .args .on .b .0
+
+  -- The pairs, the grouping, the store and the levels after the same branch.
+  abbrev pairs₂ : Same → List ℕ
+  pairs₂ c = c .visit .last .1 .1 .1 .1 .1 .0
+
+  abbrev grouping₂ : Same → List ℕ
+  grouping₂ c = c .visit .last .1 .1 .1 .1 .1 .1 .0
+
+  abbrev store₂ : Same → List ℕ
+  store₂ c = c .visit .last .1 .1 .1 .1 .1 .1 .1 .0
+
+  abbrev levels₂ : Same → List ℕ
+  levels₂ c = c .visit .last .1 .1 .1 .1 .1 .1 .1 .1 .0
+
+  abbrev pairs-kept : (c : Same) → length (pairs₂ c) ≡ length (same-begun c .args .pairs .now)
+  pairs-kept c = c .visit .kept .1 .1 .1 .1 .1 .0
+
+  abbrev grouping-kept : (c : Same) → length (grouping₂ c) ≡ length (same-begun c .args .grouping .now)
+  grouping-kept c = c .visit .kept .1 .1 .1 .1 .1 .1 .0
+
+  -- ---- branches: what is known after the visit of the same branch
+
+  -- Any path that the map and the pairs represent, whose node is the split.
+  abbrev Splits : Begun → Decisions → Type 0
+  Splits c ds = Standing (bytes c) (c .args .map) (c .args .pairs .now) (c .args .count) ds × (node ds (conditions (bytes c)) ≡ split (lot-a c) (lot-b c))
+
+  -- The split's record is written,
+  branches-written : (c : Written)
+      → c .write .last .0 ≡ sets (written-begun c .args .store .now) (recordLength * written-begun c .args .at .before) (encode (splitRecord (lot-a (written-begun c)) (lot-b (written-begun c)) 0))
+  branches-written c =
+      let start = written-begun c in
+      let place : start .args .at .before + 1 - 1 ≡ start .args .at .before = omega arith in
+      c .write .ensures ∙ ap (λ (k : ℕ). sets (start .args .store .now) (recordLength * k) (encode (splitRecord (lot-a start) (lot-b start) 0))) place
+
+  -- the branch is visited,
+  branches-told : (c : Same) (ds : Decisions) → Splits (same-begun c) ds → (tree : Tree) → Visits (nodeRule (conditions (bytes (same-begun c)))) (same (lot-a (same-begun c)) (lot-b (same-begun c)) ∷ ds) tree
+      → Explored (same-begun c .args .at .before + 1) (written (noted c) .write .last .0) (store₂ c) (same-begun c .args .grouping .now) (grouping₂ c) (c .visit .result) tree
+  branches-told c ds at tree v =
+      let start = same-begun c in
+      let join = joined (noted c) .join in
+      subst (λ (k : ℕ). Explored k (written (noted c) .write .last .0) (store₂ c) (start .args .grouping .now) (grouping₂ c) (c .visit .result) tree) (stepped (noted c) .in-same .ensures .1)
+      (c .visit .ensures .0 _ tree (same-standing (at .0) (accepted start) _ _ (at .1) (join .result) (join .ensures)) tt v)
+
+  -- for which the condition is settled,
+  noted-level : (c : Noted) → c .settle .last .0 ≡ set (begun c .args .levels .now) (begun c .args .on .condition .0 - 1) (begun c .args .at .level + 1)
+  noted-level c = c .settle .ensures ∙ ap (λ (k : ℕ). set (begun c .args .levels .now) (begun c .args .on .condition .0 - 1) k) (stepped c .in-same .ensures .2)
+
+  -- and it wrote later levels only.
+  branches-over : (c : Same) → Later (same-begun c .args .levels .now) (levels₂ c) (same-begun c .args .at .level + 1)
+  branches-over c =
+      let start = same-begun c in
+      let path = able start in
+      under-later (bytes start) (start .args .map .lots) (start .args .levels .now) (start .args .on .condition .0) (lot-a start) (lot-b start) (start .args .on .after .0) (start .args .at .level) _
+      (path .standing .represents .lots) (path .settled) (path .splits) (path .leaves) (noted c .settle .last .0) (levels₂ c) (noted-level (noted c))
+      (subst (λ (k : ℕ). Later (noted c .settle .last .0) (levels₂ c) k) (stepped (noted c) .in-same .ensures .2) (c .visit .ensures .1 .1))
+
+  -- ---- branches: what is known once the pair is set apart
+
+  branches-apart : (c : Apart) (ds : Decisions) → Splits (same-begun (apart-same c)) ds
+      → Standing (bytes (same-begun (apart-same c))) (same-begun (apart-same c) .args .map) (c .set-apart .last .0) (same-begun (apart-same c) .args .count + 1)
+      (apart (lot-a (same-begun (apart-same c))) (lot-b (same-begun (apart-same c))) ∷ ds)
+  branches-apart c ds at =
+      let under = apart-same c in
+      apart-standing (at .0) (accepted (same-begun under)) _ _ (at .1) (pairs₂ under) (c .set-apart .last .0) (pairs-kept under) (under .visit .ensures .1 .0) (c .set-apart .ensures)
+
+  -- and the apart branch goes on where the split says.
+  branches-resumes : (c : Turned) (ds : Decisions) → SplitLeaves (bytes (turned-begun c)) (turned-begun c .args .on) ds
+      → Resumes (bytes (turned-begun c)) (c .apart-place .result) (apart (lot-a (turned-begun c)) (lot-b (turned-begun c)) ∷ ds)
+  branches-resumes c ds leaves =
+      let start = turned-begun c in
+      subst (λ (p : Place). Resumes (bytes start) p (apart (lot-a start) (lot-b start) ∷ ds)) (sym (c .apart-place .ensures)) leaves
+
+  -- ---- branches: its needs
+
+  branches-add-t22 : branches-lts.Need-add-t22 (branches-claims t) (branches-at t) branches.Post
+  branches-add-t22 c = record { fits = omega (arith, c .before .before .before .before .before .before .pre .1 .1) }
+
+  branches-write-requires : branches-lts.Need-write-requires (branches-claims t) (branches-at t) branches.Post
+  branches-write-requires c κs =
+      let start = c .before .before .before .before .before .before .before .before .before in
+      (has-place (start .args .store .now) (start .args .at .before) (start .pre .1 .1) (start .args .store .now) refl, omega (arith, split-small (able start .standing) (accepted start) _ _ (able start .splits)))
+
+  branches-join-requires : branches-lts.Need-join-requires (branches-claims t) (branches-at t) branches.Post
+  branches-join-requires c κs = let start = written-begun (c .before .before) in split-small (able start .standing) (accepted start) _ _ (able start .splits)
+
+  branches-in-same-requires : branches-lts.Need-in-same-requires (branches-claims t) (branches-at t) branches.Post
+  branches-in-same-requires c κs =
+      let start = written-begun (c .before .before .before) in
+      (omega (arith, start .pre .1 .1), omega (arith, level-room (able start .standing) (accepted start) _ _ (able start .splits) (start .args .at .level) (able start .levels)))
+
+  branches-settle-requires : branches-lts.Need-settle-requires (branches-claims t) (branches-at t) branches.Post
+  branches-settle-requires c κs =
+      let start = written-begun (c .before .before .before .before .before .before) in
+      let number = split-number (bytes start) (start .args .on .condition .0) (lot-a start) (lot-b start) (start .args .on .after .0) _ (able start .leaves) in
+      (number .0, omega (arith, number .1, able start .settled .sized))
+
+  branches-visit-requires : branches-lts.Need-visit-requires (branches-claims t) (branches-at t) branches.Post
+  branches-visit-requires c κs =
+      let d = c .before .before .before .before .before .before in
+      let start = begun d in
+      let join = joined d .join in
+      let path = able start in
+      let ok = accepted start in
+      let step = stepped d .in-same .ensures in (
+        omega (arith, start .pre .0, same-less (path .standing) ok _ _ (path .splits) (join .result) (join .ensures)),
+        (
+          subst (λ (m : ℕ). Searchable (bytes start) m (start .args .grouping .now)) (sym (step .0)) (start .pre .1 .0),
+          subst (λ (k : ℕ). Visitable (bytes start) (join .result) Scan (start .args .count) k (start .args .pairs .now) (d .settle .last .0)) (sym (step .2))
+              (record {
+                settled =
+                    under-settled (bytes start) (start .args .map .lots) (start .args .levels .now) (start .args .on .condition .0) (lot-a start) (lot-b start) (start .args .on .after .0) (start .args .at .level) _
+                    (path .standing .represents .lots) (path .settled) (path .splits) (path .leaves) (join .result .lots) (d .settle .last .0) (join .ensures) (noted-level d);
+                path = _;
+                standing = same-standing (path .standing) ok _ _ (path .splits) (join .result) (join .ensures);
+                resumes = tt;
+                levels = same-level (path .standing) ok _ _ (path .splits) (start .args .at .level) (path .levels);
+              }),
+        ),
+      )
+
+  branches-enum-known-under-same : branches-lts.Need-enum-known-under-same (branches-claims t) (branches-at t) branches.Post
+  branches-enum-known-under-same c = search needs
+
+  -- The same branch met something, or found the store full:
+  abbrev ended-same : branches-lts.At-match-keys2 (branches-claims t) (branches-at t) branches.Post → Same
+  ended-same c = c .before .before .before .before .before .before .before .before .before
+
+  branches-same-length : branches-lts.Need-same-length (branches-claims t) (branches-at t) branches.Post
+  branches-same-length c = search needs
+
+  branches-same-length-2 : branches-lts.Need-same-length-2 (branches-claims t) (branches-at t) branches.Post
+  branches-same-length-2 c = search needs
+
+  branches-same-length-3 : branches-lts.Need-same-length-3 (branches-claims t) (branches-at t) branches.Post
+  branches-same-length-3 c = search needs
+
+  branches-same-length-4 : branches-lts.Need-same-length-4 (branches-claims t) (branches-at t) branches.Post
+  branches-same-length-4 c = branches-over (ended-same c) .sized
+
+  -- that is, it did not end as `Cannot`.
+  other-end : (r : Visited) → (tagOf ends.the-type r ≡ 0) ⊎ (tagOf ends.the-type r ≡ 2) → (n : ℕ) → r ≡ Cannot n → ⊥
+  other-end r other n e = ⊎-elim (λ (h : tagOf ends.the-type r ≡ 0). omega (arith, sym (ap (tagOf ends.the-type) e) ∙ h)) (λ (h : tagOf ends.the-type r ≡ 2). omega (arith, sym (ap (tagOf ends.the-type) e) ∙ h)) other
+
+  branches-returns : branches-lts.Need-returns (branches-claims t) (branches-at t) branches.Post
+  branches-returns c =
+      let under = ended-same c in
+      let start = same-begun under in (
+        (λ ds tree st e res v.
+            split-ended (split-tree v e) (start .args .at .before) (start .args .store .now) _ _ (start .args .grouping .now) _
+            (branches-written (written (noted under))) _ (branches-told under ds (st, e)) (other-end _ (c .match .keys2))),
+        (under .visit .ensures .1 .0, later-above _ _ _ (branches-over under)),
+      )
+
+  -- It is over, and the store has no room for the apart branch:
+  branches-capacity-of-requires : branches-lts.Need-capacity-of-requires (branches-claims t) (branches-at t) branches.Post
+  branches-capacity-of-requires c κs = search needs
+
+  branches-cast-if1 : branches-lts.Need-cast-if1 (branches-claims t) (branches-at t) branches.Post
+  branches-cast-if1 c = search needs
+
+  abbrev full-over : branches-lts.Then1 (branches-claims t) (branches-at t) branches.Post → Over
+  full-over c = c .before .before .before
+
+  branches-same-length-5 : branches-lts.Need-same-length-5 (branches-claims t) (branches-at t) branches.Post
+  branches-same-length-5 c = search needs
+
+  branches-same-length-6 : branches-lts.Need-same-length-6 (branches-claims t) (branches-at t) branches.Post
+  branches-same-length-6 c = search needs
+
+  branches-same-length-7 : branches-lts.Need-same-length-7 (branches-claims t) (branches-at t) branches.Post
+  branches-same-length-7 c = search needs
+
+  branches-same-length-8 : branches-lts.Need-same-length-8 (branches-claims t) (branches-at t) branches.Post
+  branches-same-length-8 c = branches-over (over-same (full-over c)) .sized
+
+  branches-returns-2 : branches-lts.Need-returns-2 (branches-claims t) (branches-at t) branches.Post
+  branches-returns-2 c =
+      let over = full-over c in
+      let under = over-same over in
+      let start = same-begun under in
+      let found = over .before .under-same .given in (
+        (λ ds tree st e res v.
+            split-over (split-tree v e) (start .args .at .before) (start .args .store .now) _ _ (start .args .grouping .now) _
+            (branches-written (written (noted under))) _ (branches-told under ds (st, e)) (found .0 .0) (found .1)
+            (omega (arith, c .before .capacity-of .ensures, c .if1 .taken))),
+        (under .visit .ensures .1 .0, later-above _ _ _ (branches-over under)),
+      )
+
+  -- or it has, and the branch is visited.
+  branches-add-t22-2 : branches-lts.Need-add-t22-2 (branches-claims t) (branches-at t) branches.Post
+  branches-add-t22-2 c = search needs
+
+  branches-set-next-requires : branches-lts.Need-set-next-requires (branches-claims t) (branches-at t) branches.Post
+  branches-set-next-requires c κs =
+      let under = over-same (roomy-over (c .before)) in
+      let start = same-begun under in (
+        has-place (start .args .store .now) _ (start .pre .1 .1) _ (under .visit .kept .1 .1 .1 .1 .1 .1 .1 .0 ∙ written (noted under) .write .kept .0),
+        number-fits (store₂ under) _ (omega (arith, c .before .before .capacity-of .ensures, c .before .if1 .left)),
+      )
+
+  branches-set-apart-requires : branches-lts.Need-set-apart-requires (branches-claims t) (branches-at t) branches.Post
+  branches-set-apart-requires c κs =
+      let under = over-same (roomy-over (nexted-roomy (c .before .before .before))) in
+      let start = same-begun under in
+      let path = able start in
+      let small = split-small (path .standing) (accepted start) _ _ (path .splits) in
+      (omega (arith, pair-room (path .standing) (accepted start) _ _ (path .splits), pairs-kept under), small .0, small .1)
+
+  branches-clear-above-requires : branches-lts.Need-clear-above-requires (branches-claims t) (branches-at t) branches.Post
+  branches-clear-above-requires c κs = search needs
+
+  branches-add-count : branches-lts.Need-add-count (branches-claims t) (branches-at t) branches.Post
+  branches-add-count c =
+      let path = able (turned-begun c) .standing in
+      record { fits = omega (arith, path .room, path .size) }
+
+  branches-in-apart-requires : branches-lts.Need-in-apart-requires (branches-claims t) (branches-at t) branches.Post
+  branches-in-apart-requires c κs = search needs
+
+  branches-apart-place-requires : branches-lts.Need-apart-place-requires (branches-claims t) (branches-at t) branches.Post
+  branches-apart-place-requires c κs = search needs
+
+  branches-visit-requires-2 : branches-lts.Need-visit-requires-2 (branches-claims t) (branches-at t) branches.Post
+  branches-visit-requires-2 c κs =
+      let turned = c .before .before .before .before in
+      let cleared = turned-cleared turned in
+      let apart-set = cleared-apart cleared in
+      let under = apart-same apart-set in
+      let start = same-begun under in
+      let path = able start in
+      let ok = accepted start in
+      let step = turned .before .in-apart .ensures in (
+        omega (
+          arith,
+          start .pre .0,
+          apart-less (path .standing) ok _ _ (path .splits) (pairs₂ under) (apart-set .set-apart .last .0) (pairs-kept under) (under .visit .ensures .1 .0) (apart-set .set-apart .ensures),
+        ),
+        (
+          subst (λ (m : ℕ). Searchable (bytes start) m (grouping₂ under)) (sym (step .0))
+              (record { scannable = start .pre .1 .0 .scannable; lots = omega (arith, start .pre .1 .0 .lots, grouping-kept under) }),
+          subst (λ (k : ℕ). Visitable (bytes start) (start .args .map) (turned .apart-place .result) (start .args .count + 1) k (apart-set .set-apart .last .0) (cleared .clear-above .last .0)) (sym (step .2))
+              (record {
+                settled =
+                    restored-settled (start .args .map .lots) (bytes start) (start .args .levels .now) (levels₂ under) (cleared .clear-above .last .0) (start .args .at .level)
+                    (path .settled) (branches-over under) (cleared .clear-above .ensures);
+                path = _;
+                standing = branches-apart apart-set _ (path .standing, path .splits);
+                resumes = branches-resumes turned _ (path .leaves);
+                levels = apart-level (path .standing) ok _ _ (path .splits) (start .args .at .level) (path .levels);
+              }),
+        ),
+      )
+
+  abbrev done-of : branches-lts.After-slice-known17 (branches-claims t) (branches-at t) branches.Post → Done
+  done-of c = c .before .before .before .before .before .before .before .before
+
+  abbrev done-apart : Done → Apart
+  done-apart c = cleared-apart (turned-cleared (done-turned c))
+
+  branches-same-length-9 : branches-lts.Need-same-length-9 (branches-claims t) (branches-at t) branches.Post
+  branches-same-length-9 c =
+      let done = done-of c in
+      done .visit2 .kept .1 .1 .1 .1 .1 .0 ∙ done-apart done .set-apart .kept .0 ∙ pairs-kept (apart-same (done-apart done))
+
+  branches-same-length-10 : branches-lts.Need-same-length-10 (branches-claims t) (branches-at t) branches.Post
+  branches-same-length-10 c = let done = done-of c in done .visit2 .kept .1 .1 .1 .1 .1 .1 .0 ∙ grouping-kept (apart-same (done-apart done))
+
+  branches-same-length-11 : branches-lts.Need-same-length-11 (branches-claims t) (branches-at t) branches.Post
+  branches-same-length-11 c =
+      let done = done-of c in
+      let under = apart-same (done-apart done) in
+      done .visit2 .kept .1 .1 .1 .1 .1 .1 .1 .0 ∙ apart-nexted (done-apart done) .set-next .kept .0 ∙ under .visit .kept .1 .1 .1 .1 .1 .1 .1 .0 ∙ written (noted under) .write .kept .0
+
+  branches-same-length-12 : branches-lts.Need-same-length-12 (branches-claims t) (branches-at t) branches.Post
+  branches-same-length-12 c =
+      let done = done-of c in
+      done .visit2 .kept .1 .1 .1 .1 .1 .1 .1 .1 .0 ∙ turned-cleared (done-turned done) .clear-above .kept .0 ∙ branches-over (apart-same (done-apart done)) .sized
+
+  branches-returns-3 : branches-lts.Need-returns-3 (branches-claims t) (branches-at t) branches.Post
+  branches-returns-3 c =
+      let done = done-of c in
+      let cleared = turned-cleared (done-turned done) in
+      let apart-set = cleared-apart cleared in
+      let next = apart-nexted apart-set .set-next in
+      let over = roomy-over (nexted-roomy (apart-nexted apart-set)) in
+      let under = over-same over in
+      let start = same-begun under in
+      let found = over .before .under-same .given in
+      let step = done-turned done .before .in-apart .ensures in (
+        (λ ds tree st e res v.
+            split-apart (split-tree v e) (start .args .at .before) (start .args .store .now) _ (store₂ under) (start .args .grouping .now) _
+            (branches-written (written (noted under))) _ (branches-told under ds (st, e)) (found .0 .0) (found .1) (next .last .0) _ _ _
+            (next .ensures)
+            (λ u w.
+            subst (λ (k : ℕ). Explored k (next .last .0) (done .visit2 .last .1 .1 .1 .1 .1 .1 .1 .0) (grouping₂ under) (done .visit2 .last .1 .1 .1 .1 .1 .1 .0) (done .visit2 .result) u) (step .1)
+            (done .visit2 .ensures .0 _ u (branches-apart apart-set ds (st, e)) (branches-resumes (done-turned done) ds res) w))),
+        (
+          untouched-through (start .args .pairs .now) (pairs₂ under) (apart-set .set-apart .last .0) (done .visit2 .last .1 .1 .1 .1 .1 .0) (start .args .count) (lot-a start) (lot-b start)
+              (under .visit .ensures .1 .0) (apart-set .set-apart .ensures) (done .visit2 .ensures .1 .0),
+          later-through (start .args .levels .now) (cleared .clear-above .last .0) (done .visit2 .last .1 .1 .1 .1 .1 .1 .1 .1 .0) (start .args .at .level)
+              (restored-later (start .args .map .lots) (bytes start) (start .args .levels .now) (levels₂ under) (cleared .clear-above .last .0) (start .args .at .level) (able start .settled) (branches-over under) (cleared .clear-above .ensures))
+              (subst (λ (k : ℕ). Later (cleared .clear-above .last .0) (done .visit2 .last .1 .1 .1 .1 .1 .1 .1 .1 .0) k) (step .2) (done .visit2 .ensures .1 .1)),
+        ),
+      )
+
+  -- ---- visit: the places of the code
+
+  abbrev Opened : Type 0
+  Opened = visit-lts.Start (visit-claims t) (visit-at t) visit.Post
+
+  -- where there is room for the node's record,
+  abbrev Room : Type 0
+  Room = visit-lts.Else1 (visit-claims t) (visit-at t) visit.Post
+
+  -- and where the node is known.
+  abbrev Known : Type 0
+  Known = visit-lts.After-node-at (visit-claims t) (visit-at t) visit.Post
+
+  abbrev room-opened : Room → Opened
+  room-opened c = c .before .before .before .before .before .before .before .before
+
+  abbrev located : Known → visit-lts.After-locate (visit-claims t) (visit-at t) visit.Post
+  located c = c .before .before .before .before
+
+  abbrev roomy : Known → Room
+  roomy c = located c .before .before
+
+  abbrev opened : Known → Opened
+  opened c = room-opened (roomy c)
+
+  abbrev sheet : Opened → List ℕ
+  sheet c = c .args .sheet .now
+
+  -- Any path that the map and the pairs represent, and from which the visit may go on.
+  abbrev Visited-by : Opened → Decisions → Type 0
+  Visited-by c ds = Standing (sheet c) (c .args .map) (c .args .pairs .now) (c .args .count) ds × Resumes (sheet c) (c .args .from) ds
+
+  -- ---- visit: what is known of the node
+
+  -- Room for its record,
+  visit-room : (c : Room) → room-opened c .args .at .before < capacity (room-opened c .args .store .now)
+  visit-room c = omega (arith, c .before .capacity-of .ensures, c .if1 .left)
+
+  -- what kind it is,
+  visit-node : (c : Known) (ds : Decisions) → Visited-by (opened c) ds → node ds (conditions (sheet (opened c))) ≡ nodeAs (c .node-at .result)
+  visit-node c ds at = sym (c .node-at .ensures .0 ds (at .0 .represents) (located c .locate .ensures .0 ds (at .0 .represents .lots) (at .1)))
+
+  -- and, if it is a split, where its apart branch goes on.
+  visit-leaves : (c : Known) (ds : Decisions) → Visited-by (opened c) ds → (kind : declared.Node) → c .node-at .result ≡ kind → Leaves (sheet (opened c)) kind ds
+  visit-leaves c ds at kind e =
+      subst (λ (n : declared.Node). Leaves (sheet (opened c)) n ds) e
+      (c .node-at .ensures .1 ds (at .0 .represents) (located c .locate .ensures .0 ds (at .0 .represents .lots) (at .1)))
+
+  -- ---- visit: its needs
+
+  visit-capacity-of-requires : visit-lts.Need-capacity-of-requires (visit-claims t) (visit-at t) visit.Post
+  visit-capacity-of-requires c κs = search needs
+
+  visit-cast-if1 : visit-lts.Need-cast-if1 (visit-claims t) (visit-at t) visit.Post
+  visit-cast-if1 c = search needs
+
+  -- There is no room;
+  visit-same-length : visit-lts.Need-same-length (visit-claims t) (visit-at t) visit.Post
+  visit-same-length c = search needs
+
+  visit-returns : visit-lts.Need-returns (visit-claims t) (visit-at t) visit.Post
+  visit-returns c =
+      let start = c .before .before .before .before .before .before .before .before in (
+        (λ ds tree st res v.
+            none-explored (start .args .at .before) (start .args .store .now) (start .args .store .now) (start .args .grouping .now) tree
+            (omega (arith, node-count tree, c .before .capacity-of .ensures, c .if1 .taken))),
+        ((λ i h. refl), later-none _ _),
+      )
+
+  -- there is, and the node is found.
+  visit-locate-requires : visit-lts.Need-locate-requires (visit-claims t) (visit-at t) visit.Post
+  visit-locate-requires c κs =
+      let start = room-opened (c .before) in
+      let path = start .pre .1 .1 in
+      (start .pre .1 .0 .scannable, place-within (sheet start) (start .args .from) (path .path) (path .resumes), path .settled)
+
+  visit-node-at-requires : visit-lts.Need-node-at-requires (visit-claims t) (visit-at t) visit.Post
+  visit-node-at-requires c κs =
+      let d = c .before .before .before in
+      let start = room-opened (d .before .before) in
+      (start .pre .1 .0 .scannable, pairs-within (start .pre .1 .1 .standing), d .locate .ensures .1 .0)
+
+  -- It is met:
+  visit-enum-told : visit-lts.Need-enum-told (visit-claims t) (visit-at t) visit.Post
+  visit-enum-told c = search needs
+
+  visit-add-t28 : visit-lts.Need-add-t28 (visit-claims t) (visit-at t) visit.Post
+  visit-add-t28 c = search needs
+
+  visit-write-requires : visit-lts.Need-write-requires (visit-claims t) (visit-at t) visit.Post
+  visit-write-requires c κs =
+      let d = roomy (c .before .before .before) in
+      let start = room-opened d in
+      (has-place (start .args .store .now) (start .args .at .before) (visit-room d) (start .args .store .now) refl, tt)
+
+  visit-write-grouping-requires : visit-lts.Need-write-grouping-requires (visit-claims t) (visit-at t) visit.Post
+  visit-write-grouping-requires c κs =
+      let start = opened (c .before .before .before .before .before .before .before) in
+      (start .pre .1 .0 .lots, entries-within (start .pre .1 .1 .standing))
+
+  visit-add-t28-2 : visit-lts.Need-add-t28-2 (visit-claims t) (visit-at t) visit.Post
+  visit-add-t28-2 c = search needs
+
+  visit-enum-known-node : visit-lts.Need-enum-known-node (visit-claims t) (visit-at t) visit.Post
+  visit-enum-known-node c = search needs
+
+  visit-add-t36 : visit-lts.Need-add-t36 (visit-claims t) (visit-at t) visit.Post
+  visit-add-t36 c = search needs
+
+  visit-write-requires-2 : visit-lts.Need-write-requires-2 (visit-claims t) (visit-at t) visit.Post
+  visit-write-requires-2 c κs =
+      let d = roomy (c .before .before .before .before) in
+      let start = room-opened d in
+      (has-place (start .args .store .now) (start .args .at .before) (visit-room d) (start .args .store .now) refl, search needs)
+
+  visit-add-t36-2 : visit-lts.Need-add-t36-2 (visit-claims t) (visit-at t) visit.Post
+  visit-add-t36-2 c = search needs
+
+  visit-enum-known-node-2 : visit-lts.Need-enum-known-node-2 (visit-claims t) (visit-at t) visit.Post
+  visit-enum-known-node-2 c = search needs
+
+  visit-branches-requires : visit-lts.Need-branches-requires (visit-claims t) (visit-at t) visit.Post
+  visit-branches-requires c κs =
+      let split-found = c .before .before .before .before .before in
+      let found = split-found .before .before in
+      let start = opened found in
+      let path = start .pre .1 .1 in
+      let kind = split-found .node2 .given .1 in (
+        omega (arith, start .pre .0),
+        (
+          start .pre .1 .0,
+          visit-room (roomy found),
+          record {
+            settled = located found .locate .ensures .1 .1 .0;
+            path = path .path;
+            standing = path .standing;
+            splits = visit-node found (path .path) (path .standing, path .resumes) ∙ ap nodeAs kind;
+            leaves = visit-leaves found (path .path) (path .standing, path .resumes) _ kind;
+            levels = path .levels;
+          },
+        ),
+      )
+
+  -- The ends of the met node,
+  abbrev grouped : visit-lts.After-slice-known7 (visit-claims t) (visit-at t) visit.Post → visit-lts.After-write-grouping (visit-claims t) (visit-at t) visit.Post
+  grouped c = c .before .before
+
+  visit-same-length-2 : visit-lts.Need-same-length-2 (visit-claims t) (visit-at t) visit.Post
+  visit-same-length-2 c = search needs
+
+  visit-same-length-3 : visit-lts.Need-same-length-3 (visit-claims t) (visit-at t) visit.Post
+  visit-same-length-3 c = search needs
+
+  visit-same-length-4 : visit-lts.Need-same-length-4 (visit-claims t) (visit-at t) visit.Post
+  visit-same-length-4 c = search needs
+
+  visit-same-length-5 : visit-lts.Need-same-length-5 (visit-claims t) (visit-at t) visit.Post
+  visit-same-length-5 c = search needs
+
+  visit-returns-2 : visit-lts.Need-returns-2 (visit-claims t) (visit-at t) visit.Post
+  unfolding groupingBytes
+  visit-returns-2 c =
+      let record-at = grouped c .before .before .before .before in
+      let told = record-at .before .before in
+      let found = told .before .before in
+      let start = opened found in
+      let place : start .args .at .before + 1 - 1 ≡ start .args .at .before = omega arith in (
+        (λ ds tree st res v.
+            met-explored (start .args .at .before) (start .args .store .now) _ (start .args .grouping .now) (visit-room (roomy found)) ds _ tree
+            (met-tree v (visit-node found ds (st, res) ∙ ap nodeAs (told .enum-told .given .1)))
+            (record-at .write .ensures ∙ ap (λ (k : ℕ). sets (start .args .store .now) (recordLength * k) (encode metRecord)) place)
+            (grouped c .write-grouping .ensures ∙ ap (λ (lots : List ℕ). take (length (start .args .grouping .now)) (drop 1 lots)) (st .represents .lots))),
+        ((λ i h. refl), located found .locate .ensures .1 .1 .1),
+      )
+
+  -- of a ground,
+  visit-same-length-6 : visit-lts.Need-same-length-6 (visit-claims t) (visit-at t) visit.Post
+  visit-same-length-6 c = search needs
+
+  visit-same-length-7 : visit-lts.Need-same-length-7 (visit-claims t) (visit-at t) visit.Post
+  visit-same-length-7 c = search needs
+
+  visit-same-length-8 : visit-lts.Need-same-length-8 (visit-claims t) (visit-at t) visit.Post
+  visit-same-length-8 c = search needs
+
+  visit-returns-3 : visit-lts.Need-returns-3 (visit-claims t) (visit-at t) visit.Post
+  visit-returns-3 c =
+      let record-at = c .before .before in
+      let ground-found = record-at .before .before .before in
+      let found = ground-found .before .before in
+      let start = opened found in
+      let condition = ground-found .node .given in
+      let place : start .args .at .before + 1 - 1 ≡ start .args .at .before = omega arith in (
+        (λ ds tree st res v.
+            ground-explored (start .args .at .before) (start .args .store .now) _ (start .args .grouping .now) (visit-room (roomy found)) (condition .0 .0 .0) tree
+            (ground-tree v (visit-node found ds (st, res) ∙ ap nodeAs (condition .1)))
+            (record-at .write2 .ensures ∙ ap (λ (k : ℕ). sets (start .args .store .now) (recordLength * k) (encode (groundRecord (condition .0 .0 .0)))) place)),
+        ((λ i h. refl), located found .locate .ensures .1 .1 .1),
+      )
+
+  -- and of a split.
+  visit-same-length-9 : visit-lts.Need-same-length-9 (visit-claims t) (visit-at t) visit.Post
+  visit-same-length-9 c = search needs
+
+  visit-same-length-10 : visit-lts.Need-same-length-10 (visit-claims t) (visit-at t) visit.Post
+  visit-same-length-10 c = search needs
+
+  visit-same-length-11 : visit-lts.Need-same-length-11 (visit-claims t) (visit-at t) visit.Post
+  visit-same-length-11 c = search needs
+
+  visit-same-length-12 : visit-lts.Need-same-length-12 (visit-claims t) (visit-at t) visit.Post
+  visit-same-length-12 c = search needs
+
+  visit-returns-4 : visit-lts.Need-returns-4 (visit-claims t) (visit-at t) visit.Post
+  visit-returns-4 c =
+      let ended = c .before .before .before .before .before .before .before .before in
+      let split-found = ended .before .before .before .before .before .before in
+      let found = split-found .before .before in
+      let kind = split-found .node2 .given .1 in (
+        (λ ds tree st res v.
+            ended .branches .ensures .0 ds tree st (visit-node found ds (st, res) ∙ ap nodeAs kind) (visit-leaves found ds (st, res) _ kind) v),
+        (ended .branches .ensures .1 .0, later-through _ _ _ _ (located found .locate .ensures .1 .1 .1) (ended .branches .ensures .1 .1)),
+      )
 
 pub +branches+visit-spec : {M : Type 1} → statement M
 +branches+visit-spec = close μ-branches μ-visit (λ t. branches-lts.spec (
@@ -514,6 +764,8 @@ pub +branches+visit-spec : {M : Type 1} → statement M
   write-reads.Learnt,
   join-reads.Asked,
   join-reads.Learnt,
+  in-same-reads.Asked,
+  in-same-reads.Learnt,
   settle-reads.Asked,
   settle-reads.Learnt,
   visit-below t,
@@ -526,48 +778,45 @@ pub +branches+visit-spec : {M : Type 1} → statement M
   set-apart-reads.Learnt,
   clear-above-reads.Asked,
   clear-above-reads.Learnt,
+  in-apart-reads.Asked,
+  in-apart-reads.Learnt,
+  apart-place-reads.Asked,
+  apart-place-reads.Learnt,
 )
     (branches-at t)
     branches.Post
-    (branches-add-visit t)
+    (branches-add-t22 t)
     (branches-write-requires t)
     (branches-join-requires t)
-    (branches-add-settle t)
+    (branches-in-same-requires t)
     (branches-settle-requires t)
-    (branches-add-visit-2 t)
-    (branches-add-visit-3 t)
     (branches-visit-requires t)
     (branches-enum-known-under-same t)
-    (branches-enum-told t)
-    (branches-enum-known-under-same-2 t)
-    (branches-capacity-of-requires t)
-    (branches-cast-if1 t)
     (branches-same-length t)
     (branches-same-length-2 t)
     (branches-same-length-3 t)
     (branches-same-length-4 t)
     (branches-returns t)
-    (branches-add-t49 t)
-    (branches-set-next-requires t)
-    (branches-set-apart-requires t)
-    (branches-clear-above-requires t)
-    (branches-add-visit-4 t)
-    (branches-visit-requires-2 t)
+    (branches-capacity-of-requires t)
+    (branches-cast-if1 t)
     (branches-same-length-5 t)
     (branches-same-length-6 t)
     (branches-same-length-7 t)
     (branches-same-length-8 t)
     (branches-returns-2 t)
+    (branches-add-t22-2 t)
+    (branches-set-next-requires t)
+    (branches-set-apart-requires t)
+    (branches-clear-above-requires t)
+    (branches-in-apart-requires t)
+    (branches-apart-place-requires t)
+    (branches-add-count t)
+    (branches-visit-requires-2 t)
     (branches-same-length-9 t)
     (branches-same-length-10 t)
     (branches-same-length-11 t)
     (branches-same-length-12 t)
-    (branches-returns-3 t)
-    (branches-same-length-13 t)
-    (branches-same-length-14 t)
-    (branches-same-length-15 t)
-    (branches-same-length-16 t)
-    (branches-returns-4 t))
+    (branches-returns-3 t))
     λ t. visit-lts.spec (
       capacity-of-reads.Asked,
       capacity-of-reads.Learnt,
@@ -585,19 +834,20 @@ pub +branches+visit-spec : {M : Type 1} → statement M
     (visit-at t)
     visit.Post
     (visit-capacity-of-requires t)
+    (visit-cast-if1 t)
     (visit-same-length t)
     (visit-returns t)
     (visit-locate-requires t)
     (visit-node-at-requires t)
     (visit-enum-told t)
-    (visit-add-t29 t)
+    (visit-add-t28 t)
     (visit-write-requires t)
     (visit-write-grouping-requires t)
-    (visit-add-t29-2 t)
+    (visit-add-t28-2 t)
     (visit-enum-known-node t)
-    (visit-add-t37 t)
+    (visit-add-t36 t)
     (visit-write-requires-2 t)
-    (visit-add-t37-2 t)
+    (visit-add-t36-2 t)
     (visit-enum-known-node-2 t)
     (visit-branches-requires t)
     (visit-same-length-2 t)

@@ -1,6 +1,6 @@
--- `search::start`: with no decision the map has every lot alone and there are no pairs and no marks; what is visited from there is the search.
+-- `search::start`: with no decision the map has every lot alone, there are no pairs, and no condition is settled; what is visited from there is the search.
 use borrow.Author.Needs.{needs}
-use Prim.Native.Nat.{_+_, _*_, _/_, _≤_}
+use Prim.Native.Nat.{_≤_}
 use mathlib.Core.List.{[]}
 use mathlib.Core.Path.{refl, sym}
 use native.Mathlib.Omega.{arith}
@@ -8,9 +8,8 @@ use lib.Seq.{length-take-le}
 use Rattle.sheet.proofs.Accepted.{sound}
 use Rattle.sheet.specs.Conditions.{conditions}
 use Rattle.equality.specs.Search.{searchTree}
-use Rattle.equality.proofs.Small.{conditions-small}
 use Rattle.equality.proofs.Visits.{search-visits}
-use Rattle.search.proofs.Standing.{start-standing, start-marked, start-level}
+use Rattle.search.proofs.Standing.{start-standing, start-settled, start-level}
 use Rattle.search.proofs.start.Statement.{statement}
 use Rattle.search.proofs.start.Tie as tie
 
@@ -20,36 +19,33 @@ new-requires c κs = search needs
 slice-aggregate-visit : tie.Need-slice-aggregate-visit
 slice-aggregate-visit c = search needs
 
-sub-room : tie.Need-sub-room
-sub-room c = search needs
+-- There are no more conditions than settled levels.
+conditions-within : (c : tie.Start) → c .args .m ≤ 256
+conditions-within c = omega (arith, c .pre .scannable .counted, sound (c .args .sheet .now) (c .pre .scannable .accepted) .header .conditions)
 
-add-room : tie.Need-add-room
-add-room c = search needs
+-- Where the levels are lent for the visit.
+abbrev begun : tie.After-levels → tie.Start
+begun c = c .before .before .before .before .before .before .before .before
 
-mul-room : tie.Need-mul-room
-mul-room c = search needs
-
--- There are no more conditions than marks, by whole groups too.
-marks-within : (c : tie.Start) → (16 * ((c .args .m + 15) / 16) ≤ 256) × (c .args .m ≤ 16 * ((c .args .m + 15) / 16))
-marks-within c =
-    let most = sound (c .args .sheet .now) (c .pre .scannable .accepted) .header .conditions in
-    (omega (arith, c .pre .scannable .counted, most), omega arith)
-
-array-borrow-prefix-marks : tie.Need-array-borrow-prefix-marks
-array-borrow-prefix-marks c = omega (arith, marks-within (c .before .before .before .before .before .before .before) .0)
+array-borrow-prefix-levels : tie.Need-array-borrow-prefix-levels
+array-borrow-prefix-levels c = omega (arith, conditions-within (c .before .before .before .before .before .before .before))
 
 slice-aggregate-visit-2 : tie.Need-slice-aggregate-visit-2
-slice-aggregate-visit-2 c = sym (length-take-le _ _ (omega (arith, marks-within (c .before .before .before .before .before .before .before .before) .0)))
+slice-aggregate-visit-2 c = sym (length-take-le _ _ (omega (arith, conditions-within (begun c))))
 
 visit-requires : tie.Need-visit-requires
 visit-requires c κs =
-    let begin = c .before .before .before .before .before .before .before .before in
-    let s = begin .args .sheet .now in
-    let within = marks-within begin in
-    let ok = begin .pre .scannable .accepted in (
-      begin .pre,
-      start-marked _ s 256 (16 * ((begin .args .m + 15) / 16)) (within .0) (omega (arith, within .1, begin .pre .scannable .counted)),
-      ([], (start-standing s ok _ _ (c .before .before .before .before .new .ensures) refl, tt, start-level s ok)),
+    let start = begun c in
+    let s = start .args .sheet .now in
+    let ok = start .pre .scannable .accepted in (
+      start .pre,
+      record {
+        settled = start-settled _ s 256 (start .args .m) (conditions-within start) (omega (arith, start .pre .scannable .counted));
+        path = [];
+        standing = start-standing s ok _ _ (c .before .before .before .before .new .ensures) refl;
+        resumes = tt;
+        levels = start-level s ok;
+      },
     )
 
 same-length : tie.Need-same-length
@@ -60,23 +56,20 @@ same-length-2 c = search needs
 
 returns : tie.Need-returns
 returns c =
-    let begin = c .before .before .before .before .before .before .before .before .before .before .before .before .before .before .before in
-    let ok = begin .pre .scannable .accepted in
-    c .before .before .before .before .before .before .visit .ensures .0 [] (searchTree (conditions (begin .args .sheet .now)))
-    (start-standing (begin .args .sheet .now) ok _ _ (c .before .before .before .before .before .before .before .before .before .before .before .new .ensures) refl)
-    tt
-    (search-visits (conditions (begin .args .sheet .now)))
+    let lent = c .before .before .before .before .before .before .before in
+    let start = begun lent in
+    let s = start .args .sheet .now in
+    let ok = start .pre .scannable .accepted in
+    c .before .before .before .before .before .before .visit .ensures .0 [] (searchTree (conditions s)) (start-standing s ok _ _ (lent .before .before .before .before .new .ensures) refl) tt
+    (search-visits (conditions s))
 
 pub start-spec : {M : Type 1} → statement M
 start-spec =
     tie.close
     (tie.spec
-    sub-room
-    add-room
-    mul-room
     new-requires
     slice-aggregate-visit
-    array-borrow-prefix-marks
+    array-borrow-prefix-levels
     slice-aggregate-visit-2
     visit-requires
     same-length

@@ -1,0 +1,63 @@
+-- The node's answer as the definition's, and where in a condition its terms are looked at.
+use Prim.Native.Nat.{ℕ, _≤_}
+use mathlib.Core.List.{List, _∷_, _++_}
+use mathlib.Core.Path.{_≡_}
+use Rattle.sheet.specs.Format.{recordCount, headAt}
+use Rattle.sheet.specs.Conditions.{Term, apart, termsFrom, conditionAt, conditions}
+use Rattle.equality.specs.Node.{Decisions, noCondition, takes, taken, Node, met, ground, split, groundOrSplit}
+use Rattle.node.specs.declared.Node as declared
+use Rattle.node.specs.declared.Node.the-variants.{Met, Ground, Split}
+use Rattle.node.specs.declared.Split as pair
+use Rattle.node.specs.declared.Place.{Place}
+use Rattle.node.specs.declared.Place.the-variants.{Scan, Within, Nowhere}
+
+-- ---- the answer as the definition's
+
+abbrev pub nodeAs : declared.Node → Node
+nodeAs Met = met
+nodeAs (Ground c) = ground (c .0)
+nodeAs (Split on) = split (on .a .0) (on .b .0)
+
+-- ---- where terms are looked at
+
+-- The terms from record `from` on are some of which none is open, which alone would make a ground, and then the terms from record r on.
+pub record PassesTo (s : List ℕ) (from r : ℕ) (ds : Decisions) : Type 0 where
+  pub within : r ≤ recordCount s
+  pub passed : List Term
+  pub place : termsFrom s from ≡ passed ++ termsFrom s r
+  pub closed : (c : ℕ) → groundOrSplit ds c passed ≡ ground c
+
+-- They may be looked at within condition c, from record r on: the node of these decisions takes that condition, and none of its terms before that record is
+-- open.
+pub record ResumesWithin (s : List ℕ) (c r : ℕ) (ds : Decisions) : Type 0 where
+  pub condition : taken ds 1 (conditions s) ≡ takes c (conditionAt s c)
+  pub passes : PassesTo s (headAt s c) r ds
+
+-- A visit may go on from this place, for these decisions: wherever the place says, or by a scan.
+abbrev pub Resumes : List ℕ → Place → Decisions → Type 0
+Resumes s Scan ds = Unit {0}
+Resumes s (Within c r) ds = ResumesWithin s (c .0) (r .0) ds
+Resumes s Nowhere ds = taken ds 1 (conditions s) ≡ noCondition
+
+-- The place of their node is known, and is this one.
+abbrev pub Stands : List ℕ → Place → Decisions → Type 0
+Stands s Scan ds = ⊥
+Stands s (Within c r) ds = ResumesWithin s (c .0) (r .0) ds
+Stands s Nowhere ds = taken ds 1 (conditions s) ≡ noCondition
+
+-- Its record is one of the sheet's, or 0.
+abbrev pub PlaceWithin : List ℕ → Place → Type 0
+PlaceWithin s Scan = Unit {0}
+PlaceWithin s (Within c r) = r .0 ≤ recordCount s
+PlaceWithin s Nowhere = Unit {0}
+
+-- ---- what a split says of its apart branch
+
+-- It may go on where the split says.
+abbrev pub SplitLeaves : List ℕ → pair.Split → Decisions → Type 0
+SplitLeaves s on ds = ResumesWithin s (on .condition .0) (on .after .0) (apart (on .a .0) (on .b .0) ∷ ds)
+
+abbrev pub Leaves : List ℕ → declared.Node → Decisions → Type 0
+Leaves s Met ds = Unit {0}
+Leaves s (Ground c) ds = Unit {0}
+Leaves s (Split on) ds = SplitLeaves s on ds
