@@ -185,7 +185,7 @@ fn after_ground(path: &mut [u32], levels: &mut [u8], at: Position) -> Step
     Step::On(top)
 }
 
-// A split, which names a record: its lots, how many splits stand above it, and the path with it on top.
+// A split, with the number of its record: its lots, how many splits stand above it, and the path with it on top.
 fn split_step(
     path: &mut [u32],
     depth: usize,
