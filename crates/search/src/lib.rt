@@ -22,7 +22,7 @@ use sheet::Reading;
 use store::NodeNumber;
 use store::NodeRecord;
 
-// The bytes of the pairs that a path can set apart: two for each term that a sheet can have.
+// The bytes of the pairs that a path can set apart (`pairsRoom`): two for each split that it can have.
 const PAIRS_LENGTH: usize = 2048;
 
 // The settled levels: one for each condition that a sheet can have.
