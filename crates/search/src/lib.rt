@@ -85,7 +85,8 @@ fn write_grouping(grouping: &mut [u8], map: Classes)
 {
     let mut i: usize = 0;
     while i < grouping.len() {
-        let smallest = map.smallest_lot(Lot((i + 1) as u16));
+        let lot = Lot((i + 1) as u16);
+        let smallest = map.smallest_lot(lot);
         grouping[i] = smallest.lot.0 as u8;
         i += 1;
     }
