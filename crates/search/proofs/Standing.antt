@@ -7,19 +7,16 @@ use native.Mathlib.Omega.{arith}
 use lib.Dec.{eqb}
 use lib.ListN.{length, getD, set, take, replicate, length-set, length-replicate}
 use lib.Seq.{length-take-le}
-use Rattle.sheet.specs.Format.{mostLots, mostRecords, conditionCount}
+use Rattle.sheet.specs.Format.{mostLots, conditionCount}
 use Rattle.sheet.specs.Checks.{Accepted}
 use Rattle.sheet.specs.Conditions.{Term, same, apart, conditionAt, conditions}
-use Rattle.sheet.proofs.Accepted.{sound}
-use Rattle.sheet.proofs.Conditions.{terms-length}
 use Rattle.equality.specs.Node.{Decisions, classes, merged, classOf, marked, takes, taken, split, node}
 use Rattle.equality.proofs.Small.{conditions-small}
 use Rattle.equality.proofs.Least.{least}
 use Rattle.equality.proofs.Node.{taken-apart}
 use Rattle.equality.specs.Opens.{Small, closed, opens, allOpens}
 use Rattle.equality.proofs.Rule.{split-at}
-use Rattle.equality.proofs.Bounds.{all-same-terms}
-use Rattle.equality.proofs.Opens.{opens-all-same, split-all, same-fewer, apart-fewer}
+use Rattle.equality.proofs.Opens.{split-all, same-fewer, apart-fewer}
 use Rattle.classes.specs.declared.Classes.{Classes}
 use Rattle.classes.specs.Pairs.{setApart, withPair, PairsWithin}
 use Rattle.classes.proofs.Path.{pair-leaves, new-represents, join-represents, apart-represents, below-represents, represented-within, smallest-says, marked-says}
@@ -28,7 +25,9 @@ use Rattle.node.specs.declared.Place.the-variants.{Scan, Within, Nowhere}
 use Rattle.node.specs.Place.{ResumesWithin, Resumes, PlaceWithin}
 use Rattle.node.specs.Settled.{Settled, Later}
 use Rattle.node.proofs.Settling.{taken-number, same-settled, same-later, later-through}
+use Rattle.search.specs.Limits.{pairsRoom, mostLevel}
 use Rattle.search.specs.Visited.{Standing, LevelWithin, Untouched, EntriesWithin}
+use Rattle.search.proofs.Limits.{opens-within, pairs-enough, pairs-count, levels-enough, level-fits}
 
 -- ---- the open "same" terms, counted by the map and the pairs: the measure of the visits
 
@@ -109,16 +108,16 @@ start-settled cs s n m h e =
     }
 
 pub start-level : (s : List ℕ) → Accepted s → LevelWithin s 1 []
-start-level s ok = omega (arith, opens-all-same [] (conditions s), all-same-terms (conditions s), terms-length s ok, sound s ok .header .records)
+start-level s ok = omega (arith, opens-within s ok [], levels-enough)
 
--- No decision, and pairs with room for one of each term that a sheet can have.
-pub start-standing : (s : List ℕ) → Accepted s → (map : Classes) (pairs : List ℕ) → map .lots ≡ classes [] → length pairs ≡ 2 * mostRecords → Standing s map pairs 0 []
+-- No decision, and all the room that there is for pairs.
+pub start-standing : (s : List ℕ) → Accepted s → (map : Classes) (pairs : List ℕ) → map .lots ≡ classes [] → length pairs ≡ pairsRoom → Standing s map pairs 0 []
 start-standing s ok map pairs new len =
     record {
       represents = new-represents map pairs new;
       small = tt;
-      room = omega (arith, opens-all-same [] (conditions s), all-same-terms (conditions s), terms-length s ok, sound s ok .header .records);
-      size = omega arith;
+      room = omega (arith, len, opens-within s ok [], pairs-enough);
+      size = omega (arith, len);
     }
 
 module _ {s : List ℕ} {map : Classes} {pairs : List ℕ} {count : ℕ} {ds : Decisions} (st : Standing s map pairs count ds) where
@@ -164,8 +163,12 @@ module _ {s : List ℕ} {map : Classes} {pairs : List ℕ} {count : ℕ} {ds : D
     apart-level level h = omega (arith, h, apart-falls)
 
     -- a level has room,
-    pub level-room : (level : ℕ) → LevelWithin s level ds → level ≤ mostRecords
-    level-room level h = omega (arith, h, same-falls)
+    pub level-room : (level : ℕ) → LevelWithin s level ds → level + 1 < 65536
+    level-room level h = omega (arith, h, same-falls, level-fits)
+
+    -- there is a number more,
+    pub count-room : count + 1 < 4294967296
+    count-room = omega (arith, st .room, st .size, apart-falls, pairs-count)
 
     -- there is room for a pair more,
     pub pair-room : 2 * count + 2 ≤ length pairs

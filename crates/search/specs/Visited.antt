@@ -6,7 +6,7 @@ use mathlib.Core.Path.{_≡_}
 use lib.Dec.{leb}
 use lib.ListN.{length, getD}
 use lib.Seq.{sets}
-use Rattle.sheet.specs.Format.{mostLots, mostRecords}
+use Rattle.sheet.specs.Format.{mostLots}
 use Rattle.sheet.specs.Conditions.{conditions}
 use Rattle.buffers.specs.Lists.{All}
 use Rattle.equality.specs.Node.{Decisions, classOf, split, node}
@@ -24,6 +24,7 @@ use Rattle.outcome.specs.Nodes.{records}
 use Rattle.store.specs.Records.{encodeAll, recordLength, capacity}
 use Rattle.outcome.specs.Outcome.{Result, groupingAfter, storeAfter}
 use Rattle.search.specs.declared.SearchAnswer.{SearchAnswer}
+use Rattle.search.specs.Limits.{pairsRoom, mostLevel}
 use Rattle.search.specs.Promises.{answerCase}
 use Rattle.search.specs.declared.Visited.{Visited}
 use Rattle.search.specs.declared.Visited.the-variants.{Met, Cannot, Full}
@@ -36,16 +37,16 @@ pub record Searchable (s : List ℕ) (m : ℕ) (grouping : List ℕ) : Type 0 wh
   pub lots : length grouping ≤ mostLots
 
 -- The map and the first `count` pairs are those of the path `ds`, whose lots have entries in the map. The pairs have room for as many more as there are
--- open "same" terms, and no more room than for one of each term that a sheet can have.
+-- open "same" terms, and no more than they have in the code.
 pub record Standing (s : List ℕ) (map : Classes) (pairs : List ℕ) (count : ℕ) (ds : Decisions) : Type 0 where
   pub represents : Represents map pairs count ds
   pub small : All Small ds
   pub room : 2 * (count + allOpens ds (conditions s)) ≤ length pairs
-  pub size : length pairs ≤ 2 * mostRecords
+  pub size : length pairs ≤ pairsRoom
 
 -- The level of the path leaves room for one more for each open "same" term.
 abbrev pub LevelWithin : List ℕ → ℕ → Decisions → Type 0
-LevelWithin s level ds = level + allOpens ds (conditions s) ≤ mostRecords + 1
+LevelWithin s level ds = level + allOpens ds (conditions s) ≤ mostLevel
 
 -- A visit may be made from a place: the settled levels are those of some path that stands so.
 pub record Visitable (s : List ℕ) (map : Classes) (from : Place) (count level : ℕ) (pairs noted : List ℕ) : Type 0 where

@@ -22,7 +22,7 @@ use sheet::Reading;
 use store::NodeNumber;
 use store::NodeRecord;
 
-// The bytes of the pairs that a path can set apart: two for each term that a sheet can have.
+// The bytes of the pairs that a path can set apart (`pairsRoom`): two for each split that it can have.
 const PAIRS_LENGTH: usize = 2048;
 
 // The settled levels: one for each condition that a sheet can have.
@@ -85,7 +85,8 @@ fn write_grouping(grouping: &mut [u8], map: Classes)
 {
     let mut i: usize = 0;
     while i < grouping.len() {
-        let smallest = map.smallest_lot(Lot((i + 1) as u16));
+        let lot = Lot((i + 1) as u16);
+        let smallest = map.smallest_lot(lot);
         grouping[i] = smallest.lot.0 as u8;
         i += 1;
     }

@@ -33,7 +33,7 @@ use Rattle.search.proofs.Visited as ends
 use Rattle.search.proofs.Exploring.{none-explored, met-explored, ground-explored}
 use Rattle.search.proofs.Splitting.{split-ended, split-over, split-apart}
 use Rattle.search.proofs.Room.{has-place, number-fits}
-use Rattle.search.proofs.Standing.{openCount, place-within, split-number, under-settled, under-later, same-level, apart-level, level-room, pairs-within, entries-within, split-small, same-standing, same-less, pair-room, apart-standing, apart-less, untouched-through}
+use Rattle.search.proofs.Standing.{openCount, place-within, split-number, under-settled, under-later, same-level, apart-level, level-room, count-room, pairs-within, entries-within, split-small, same-standing, same-less, pair-room, apart-standing, apart-less, untouched-through}
 use borrow.Fn.Kinds.{In}
 use borrow.Fn.PlainCycle.{Measures, is, falls, and}
 use Rattle.search.proofs.branches.Reads as branches
@@ -442,8 +442,8 @@ module _ (t : ℕ) where
 
   branches-add-count : branches-lts.Need-add-count (branches-claims t) (branches-at t) branches.Post
   branches-add-count c =
-      let path = able (turned-begun c) .standing in
-      record { fits = omega (arith, path .room, path .size) }
+      let start = turned-begun c in
+      record { fits = omega (arith, count-room (able start .standing) (accepted start) _ _ (able start .splits)) }
 
   branches-in-apart-requires : branches-lts.Need-in-apart-requires (branches-claims t) (branches-at t) branches.Post
   branches-in-apart-requires c κs = search needs

@@ -9,6 +9,7 @@ use Rattle.sheet.proofs.Accepted.{sound}
 use Rattle.sheet.specs.Conditions.{conditions}
 use Rattle.equality.specs.Search.{searchTree}
 use Rattle.equality.proofs.Visits.{search-visits}
+use Rattle.search.specs.Limits.{pairsRoom}
 use Rattle.search.proofs.Standing.{start-standing, start-settled, start-level}
 use Rattle.search.proofs.start.Statement.{statement}
 use Rattle.search.proofs.start.Tie as tie
@@ -34,6 +35,7 @@ slice-aggregate-visit-2 : tie.Need-slice-aggregate-visit-2
 slice-aggregate-visit-2 c = sym (length-take-le _ _ (omega (arith, conditions-within (begun c))))
 
 visit-requires : tie.Need-visit-requires
+unfolding pairsRoom
 visit-requires c κs =
     let start = begun c in
     let s = start .args .sheet .now in
@@ -55,6 +57,7 @@ same-length-2 : tie.Need-same-length-2
 same-length-2 c = search needs
 
 returns : tie.Need-returns
+unfolding pairsRoom
 returns c =
     let lent = c .before .before .before .before .before .before .before in
     let start = begun lent in

@@ -20,11 +20,11 @@ abbrev μ-loop : tie.MeasureT-loop
 loop-holds : tie.Need-loop-holds Inv-loop μ-loop
 loop-holds c = search needs
 
-add-t5 : tie.Need-add-t5 Inv-loop μ-loop
-add-t5 c = search needs
+add-t6 : tie.Need-add-t6 Inv-loop μ-loop
+add-t6 c = search needs
 
-cast-t7 : tie.Need-cast-t7 Inv-loop μ-loop
-cast-t7 c = search needs
+cast-t8 : tie.Need-cast-t8 Inv-loop μ-loop
+cast-t8 c = search needs
 
 smallest-lot-requires : tie.Need-smallest-lot-requires Inv-loop μ-loop
 smallest-lot-requires c κs = search needs
@@ -73,8 +73,8 @@ write-grouping-spec =
     Inv-loop
     μ-loop
     loop-holds
-    add-t5
-    cast-t7
+    add-t6
+    cast-t8
     smallest-lot-requires
     cast-grouping
     slice-write-grouping
