@@ -7,13 +7,14 @@ ghost use Rattle.sheet.specs.Conditions.{conditions};
 ghost use Rattle.equality.specs.Node.{Decisions, classes, node};
 ghost use Rattle.classes.specs.Pairs.{PairsWithin, Represents};
 ghost use Rattle.node.specs.declared.Place.the-variants.{Within};
-ghost use Rattle.node.specs.Scan.{Scannable};
+ghost use Rattle.sheet.specs.Inner.{HasConditions};
 ghost use Rattle.node.specs.Settled.{Settled, Later, ClearedAbove};
 ghost use Rattle.node.specs.Place.{ResumesWithin, Resumes, Stands, PlaceWithin, nodeAs, Leaves};
 use classes::Classes;
 use sheet::Condition;
 use sheet::Lot;
 use sheet::Record;
+use sheet::SAME;
 
 // Where the terms of a node are looked at: nobody knows yet, and the conditions are to be scanned; within the condition that it takes, from a record on; or
 // nowhere, since it takes none. (The apart branch of a split takes the split's condition, and no term of it up to the split's is open any more.)
@@ -54,7 +55,7 @@ pub enum Node {
 // further decision, so the level of the path is noted for it, and a condition that has a level is not read. The map's array is read in place: a method that
 // hands the map back would copy it for each term.
 pub fn scan(sheet: &[u8], m: u16, map: Classes, levels: &mut [u16], level: u16) -> Place
-    requires { ⌜ Scannable (now sheet) m × Settled (map .lots) (now sheet) (now levels) level ⌝ }
+    requires { ⌜ HasConditions (now sheet) m × Settled (map .lots) (now sheet) (now levels) level ⌝ }
     ensures stands { λ r. ⌜ ((ds : Decisions) → map .lots ≡ classes ds → Stands (now (sheet .entry)) r ds) ⌝ }
     ensures within { λ r. ⌜ PlaceWithin (now (sheet .entry)) r ⌝ }
     ensures settled { λ r. ⌜ Settled (map .lots) (now (sheet .entry)) (now (levels .exit)) level ⌝ }
@@ -81,7 +82,7 @@ pub fn scan(sheet: &[u8], m: u16, map: Classes, levels: &mut [u16], level: u16) 
             let a = t.a.0 as usize;
             let b = t.b.0 as usize;
             let shared = lots[a] == lots[b];
-            if shared == (t.sign == 1) {
+            if shared == (t.sign == SAME) {
                 if shared {
                     levels[place] = level;
                 }
@@ -122,7 +123,7 @@ pub fn locate(
     levels: &mut [u16],
     level: u16,
 ) -> Place
-    requires { ⌜ Scannable (now sheet) m × PlaceWithin (now sheet) from × Settled (map .lots) (now sheet) (now levels) level ⌝ }
+    requires { ⌜ HasConditions (now sheet) m × PlaceWithin (now sheet) from × Settled (map .lots) (now sheet) (now levels) level ⌝ }
     ensures stands { λ r. ⌜ ((ds : Decisions) → map .lots ≡ classes ds → Resumes (now (sheet .entry)) from ds → Stands (now (sheet .entry)) r ds) ⌝ }
     ensures within { λ r. ⌜ PlaceWithin (now (sheet .entry)) r ⌝ }
     ensures settled { λ r. ⌜ Settled (map .lots) (now (sheet .entry)) (now (levels .exit)) level ⌝ }
@@ -146,7 +147,7 @@ fn first_open(
     condition: Condition,
     from: Record,
 ) -> Node
-    requires { ⌜ Scannable (now sheet) m × PairsWithin (now pairs) count × (from .0 ≤ recordCount (now sheet)) ⌝ }
+    requires { ⌜ HasConditions (now sheet) m × PairsWithin (now pairs) count × (from .0 ≤ recordCount (now sheet)) ⌝ }
     ensures node { λ r. ⌜ ((ds : Decisions) → Represents map (now (pairs .entry)) count ds → ResumesWithin (now (sheet .entry)) (condition .0) (from .0) ds → nodeAs r ≡ node ds (conditions (now (sheet .entry)))) ⌝ }
     ensures leaves { λ r. ⌜ ((ds : Decisions) → Represents map (now (pairs .entry)) count ds → ResumesWithin (now (sheet .entry)) (condition .0) (from .0) ds → Leaves (now (sheet .entry)) r ds) ⌝ }
 {
@@ -156,7 +157,7 @@ fn first_open(
         let a = t.a;
         let b = t.b;
         let after = t.next;
-        if t.sign == 1 {
+        if t.sign == SAME {
             let mark = map.marked_apart(pairs, count, a, b);
             if !mark.marked {
                 return Node::Split(Split {
@@ -175,7 +176,7 @@ fn first_open(
 // The node of a path, whose classes and pairs set apart are given: met where it takes no condition, otherwise a ground or a split of the condition taken.
 // (Where it is not known, nothing is said: `locate` is asked first.)
 pub fn node_at(sheet: &[u8], m: u16, map: Classes, pairs: &[u8], count: usize, place: Place) -> Node
-    requires { ⌜ Scannable (now sheet) m × PairsWithin (now pairs) count × PlaceWithin (now sheet) place ⌝ }
+    requires { ⌜ HasConditions (now sheet) m × PairsWithin (now pairs) count × PlaceWithin (now sheet) place ⌝ }
     ensures node { λ r. ⌜ ((ds : Decisions) → Represents map (now (pairs .entry)) count ds → Stands (now (sheet .entry)) place ds → nodeAs r ≡ node ds (conditions (now (sheet .entry)))) ⌝ }
     ensures leaves { λ r. ⌜ ((ds : Decisions) → Represents map (now (pairs .entry)) count ds → Stands (now (sheet .entry)) place ds → Leaves (now (sheet .entry)) r ds) ⌝ }
 {

@@ -26,7 +26,8 @@ use Rattle.node.specs.Place.{ResumesWithin, Resumes, PlaceWithin}
 use Rattle.node.specs.Settled.{Settled, Later}
 use Rattle.node.proofs.Settling.{taken-number, same-settled, same-later, later-through}
 use Rattle.search.specs.Limits.{pairsRoom, mostLevel}
-use Rattle.search.specs.Visited.{Standing, LevelWithin, Untouched, EntriesWithin}
+use Rattle.search.specs.Visited.{Standing, LevelWithin, Untouched}
+use Rattle.classes.specs.Maps.{ClassesWithin}
 use Rattle.search.proofs.Limits.{opens-within, pairs-enough, pairs-count, levels-enough, level-fits}
 
 -- ---- the open "same" terms, counted by the map and the pairs: the measure of the visits
@@ -132,7 +133,7 @@ module _ {s : List ℕ} {map : Classes} {pairs : List ℕ} {count : ℕ} {ds : D
   pub pairs-within : PairsWithin pairs count
   pairs-within = represented-within (st .represents) (st .small) (omega (arith, st .room))
 
-  pub entries-within : EntriesWithin (map .lots)
+  pub entries-within : ClassesWithin (map .lots)
   entries-within lot h = omega (arith, smallest-says (st .represents) lot, least ds lot)
 
   module _ (ok : Accepted s) (a b : ℕ) (e : node ds (conditions s) ≡ split a b) where

@@ -17,7 +17,7 @@ use Rattle.classes.specs.declared.Classes.{Classes}
 use Rattle.classes.specs.Pairs.{Represents}
 use Rattle.node.specs.declared.Place.{Place}
 use Rattle.node.specs.declared.Split.{Split}
-use Rattle.node.specs.Scan.{Scannable}
+use Rattle.sheet.specs.Inner.{HasConditions}
 use Rattle.node.specs.Settled.{Settled}
 use Rattle.node.specs.Place.{Resumes, SplitLeaves}
 use Rattle.outcome.specs.Nodes.{records}
@@ -33,7 +33,7 @@ use Rattle.search.specs.declared.Visited.the-variants.{Met, Cannot, Full
 
 -- The sheet is accepted, with m conditions, and the grouping has no more bytes than a sheet can have lots.
 pub record Searchable (s : List ℕ) (m : ℕ) (grouping : List ℕ) : Type 0 where
-  pub scannable : Scannable s m
+  pub sheet : HasConditions s m
   pub lots : length grouping ≤ mostLots
 
 -- The map and the first `count` pairs are those of the path `ds`, whose lots have entries in the map. The pairs have room for as many more as there are
@@ -64,10 +64,6 @@ pub record Splittable (s : List ℕ) (map : Classes) (on : Split) (count level :
   pub splits : node path (conditions s) ≡ split (on .a .0) (on .b .0)
   pub leaves : SplitLeaves s on path
   pub levels : LevelWithin s level path
-
--- The entry of each lot is a lot.
-abbrev pub EntriesWithin : List ℕ → Type 0
-EntriesWithin lots = (lot : ℕ) → lot ≤ mostLots → classOf lots lot ≤ mostLots
 
 -- ---- what it does
 

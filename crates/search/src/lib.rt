@@ -7,12 +7,13 @@ ghost use Rattle.sheet.specs.Format.{mostLots, lotCount};
 ghost use Rattle.sheet.specs.Conditions.{conditions};
 ghost use Rattle.equality.specs.Search.{searchTree};
 ghost use Rattle.node.specs.Settled.{Later};
-ghost use Rattle.node.specs.Scan.{Scannable};
+ghost use Rattle.sheet.specs.Inner.{HasConditions};
 ghost use Rattle.store.specs.Records.{capacity};
 ghost use Rattle.outcome.specs.Outcome.{resultOf, searchOutcome};
 ghost use Rattle.search.specs.Answers.{searchAnswer};
 ghost use Rattle.search.specs.Promises.{searchCase, RefusedExactly, FullExactly, FullPlace, MetExactly, MetGrouping, CannotExactly, CannotRefutes, CountBounded};
-ghost use Rattle.search.specs.Visited.{Searchable, EntriesWithin, Visitable, Splittable, Untouched, Explored, VisitExplores, SplitExplores, EndsAs};
+ghost use Rattle.search.specs.Visited.{Searchable, Visitable, Splittable, Untouched, Explored, VisitExplores, SplitExplores, EndsAs};
+ghost use Rattle.classes.specs.Maps.{ClassesWithin};
 use classes::Classes;
 use node::Node;
 use node::Place;
@@ -80,7 +81,7 @@ pub enum SearchAnswer {
 
 // Writes the smallest lot of each lot's class.
 fn write_grouping(grouping: &mut [u8], map: Classes)
-    requires { ⌜ (length (now grouping) ≤ mostLots) × EntriesWithin (map .lots) ⌝ }
+    requires { ⌜ (length (now grouping) ≤ mostLots) × ClassesWithin (map .lots) ⌝ }
     ensures { λ _. ⌜ now (grouping .exit) ≡ take (length (now (grouping .entry))) (drop 1 (map .lots)) ⌝ }
 {
     let mut i: usize = 0;
@@ -208,7 +209,7 @@ fn search_accepted(
     grouping: &mut [u8],
     store: &mut [u8],
 ) -> SearchAnswer
-    requires { ⌜ Scannable (now sheet) m × (n ≡ lotCount (now sheet)) × (n ≤ length (now grouping)) ⌝ }
+    requires { ⌜ HasConditions (now sheet) m × (n ≡ lotCount (now sheet)) × (n ≤ length (now grouping)) ⌝ }
     ensures { λ r. ⌜ EndsAs n (resultOf Passes (capacity (now (store .entry))) (searchTree (conditions (now (sheet .entry)))))
         (now (grouping .entry)) (now (grouping .exit)) (now (store .entry)) (now (store .exit)) r ⌝ }
 {

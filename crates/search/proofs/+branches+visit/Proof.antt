@@ -219,7 +219,7 @@ module _ (t : ℕ) where
   bytes c = c .args .sheet .now
 
   abbrev accepted : (c : Begun) → Accepted (bytes c)
-  accepted c = c .pre .1 .0 .scannable .accepted
+  accepted c = c .pre .1 .0 .sheet .accepted
 
   abbrev able : (c : Begun) → Splittable (bytes c) (c .args .map) (c .args .on) (c .args .count) (c .args .at .level) (c .args .pairs .now) (c .args .levels .now)
   able c = c .pre .1 .2
@@ -468,7 +468,7 @@ module _ (t : ℕ) where
         ),
         (
           subst (λ (m : ℕ). Searchable (bytes start) m (grouping₂ under)) (sym (step .0))
-              (record { scannable = start .pre .1 .0 .scannable; lots = omega (arith, start .pre .1 .0 .lots, grouping-kept under) }),
+              (record { sheet = start .pre .1 .0 .sheet; lots = omega (arith, start .pre .1 .0 .lots, grouping-kept under) }),
           subst (λ (k : ℕ). Visitable (bytes start) (start .args .map) (turned .apart-place .result) (start .args .count + 1) k (apart-set .set-apart .last .0) (cleared .clear-above .last .0)) (sym (step .2))
               (record {
                 settled =
@@ -608,13 +608,13 @@ module _ (t : ℕ) where
   visit-locate-requires c κs =
       let start = room-opened (c .before) in
       let path = start .pre .1 .1 in
-      (start .pre .1 .0 .scannable, place-within (sheet start) (start .args .from) (path .path) (path .resumes), path .settled)
+      (start .pre .1 .0 .sheet, place-within (sheet start) (start .args .from) (path .path) (path .resumes), path .settled)
 
   visit-node-at-requires : visit-lts.Need-node-at-requires (visit-claims t) (visit-at t) visit.Post
   visit-node-at-requires c κs =
       let d = c .before .before .before in
       let start = room-opened (d .before .before) in
-      (start .pre .1 .0 .scannable, pairs-within (start .pre .1 .1 .standing), d .locate .ensures .1 .0)
+      (start .pre .1 .0 .sheet, pairs-within (start .pre .1 .1 .standing), d .locate .ensures .1 .0)
 
   -- It is met:
   visit-enum-told : visit-lts.Need-enum-told (visit-claims t) (visit-at t) visit.Post

@@ -35,7 +35,7 @@ slice-aggregate-start-2 c = let begin = c .before .before .before .before .befor
 
 start-requires : tie.Need-start-requires
 start-requires c κs = let begin = c .before .before .before .before .before .before .before in
-    record { scannable = begin .pre .0; lots = omega (arith, length-take-le (begin .args .n) (begin .args .grouping .now) (begin .pre .2), lots-within begin) }
+    record { sheet = begin .pre .0; lots = omega (arith, length-take-le (begin .args .n) (begin .args .grouping .now) (begin .pre .2), lots-within begin) }
 
 enum-known-visited : tie.Need-enum-known-visited
 enum-known-visited c = search needs

@@ -22,7 +22,7 @@ slice-aggregate-visit c = search needs
 
 -- There are no more conditions than settled levels.
 conditions-within : (c : tie.Start) → c .args .m ≤ 256
-conditions-within c = omega (arith, c .pre .scannable .counted, sound (c .args .sheet .now) (c .pre .scannable .accepted) .header .conditions)
+conditions-within c = omega (arith, c .pre .sheet .counted, sound (c .args .sheet .now) (c .pre .sheet .accepted) .header .conditions)
 
 -- Where the levels are lent for the visit.
 abbrev begun : tie.After-levels → tie.Start
@@ -39,10 +39,10 @@ unfolding pairsRoom
 visit-requires c κs =
     let start = begun c in
     let s = start .args .sheet .now in
-    let ok = start .pre .scannable .accepted in (
+    let ok = start .pre .sheet .accepted in (
       start .pre,
       record {
-        settled = start-settled _ s 256 (start .args .m) (conditions-within start) (omega (arith, start .pre .scannable .counted));
+        settled = start-settled _ s 256 (start .args .m) (conditions-within start) (omega (arith, start .pre .sheet .counted));
         path = [];
         standing = start-standing s ok _ _ (c .before .before .before .before .new .ensures) refl;
         resumes = tt;
@@ -62,7 +62,7 @@ returns c =
     let lent = c .before .before .before .before .before .before .before in
     let start = begun lent in
     let s = start .args .sheet .now in
-    let ok = start .pre .scannable .accepted in
+    let ok = start .pre .sheet .accepted in
     c .before .before .before .before .before .before .visit .ensures .0 [] (searchTree (conditions s)) (start-standing s ok _ _ (lent .before .before .before .before .new .ensures) refl) tt
     (search-visits (conditions s))
 
