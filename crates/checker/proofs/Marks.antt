@@ -9,7 +9,7 @@ use borrow.Author.Tests.{eqb-true, eqb-false}
 use lib.Dec.{eqb}
 use lib.ListN.{length, getD, set, replicate, length-set}
 use lib.Seq.{getD-set-same, getD-set-other}
-use Rattle.sheet.specs.Format.{mostLots}
+use Rattle.sheet.specs.Format.{mostLots, sameSign}
 use Rattle.sheet.specs.Conditions.{Term, same, apart, termOf}
 use Rattle.buffers.specs.Lists.{All}
 use Rattle.equality.specs.Node.{Decisions, classOf, between, marked}
@@ -123,8 +123,8 @@ module _ (cs : List ℕ) (within : ClassesWithin cs) (ds : Decisions) (small : A
           ∙ by (marked cs ds x y)
 
 -- The test on a term, by its sign.
-pub allows-term : (cs table : List ℕ) (sign a b : ℕ) → allows cs table (termOf sign a b) ≡ allowsClasses table (eqb sign 1) (classOf cs a) (classOf cs b)
-allows-term cs table sign a b = go (eqb sign 1)
+pub allows-term : (cs table : List ℕ) (sign a b : ℕ) → allows cs table (termOf sign a b) ≡ allowsClasses table (eqb sign sameSign) (classOf cs a) (classOf cs b)
+allows-term cs table sign a b = go (eqb sign sameSign)
   where
     go : (p : Bool) → allows cs table (cond p (same a b) (apart a b)) ≡ allowsClasses table p (classOf cs a) (classOf cs b)
     go true = refl

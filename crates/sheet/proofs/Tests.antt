@@ -9,7 +9,7 @@ use Rattle.sheet.specs.declared.Header.{Header}
 use Rattle.sheet.specs.declared.Term.{Term}
 use Rattle.sheet.specs.declared.Verdict.the-variants.{Passes}
 use Rattle.sheet.specs.declared.Verdict.{Verdict}
-use Rattle.sheet.specs.Format.{mostLots, mostConditions, mostRecords, headerLength, sheetLength, spareAt}
+use Rattle.sheet.specs.Format.{sameSign, apartSign, mostLots, mostConditions, mostRecords, headerLength, sheetLength, spareAt}
 use Rattle.sheet.specs.Checks.{orElse, firstRefusal, refusesIf, check1, check2, check3, lotInRange, wellFormed, headerChecks}
 use Rattle.sheet.specs.Inner.{headerAt, termRecordAt}
 
@@ -30,7 +30,7 @@ header-by-tests s counts = rw counts
 -- The tests of a term and a spare byte, under a header.
 abbrev pub recordTests : Header → Term → ℕ → Bool
 recordTests h t spare =
-    (eqb (t .sign) 1 || eqb (t .sign) 2)
+    (eqb (t .sign) sameSign || eqb (t .sign) apartSign)
     && (eqb spare 0
     && (lotInRange (h .lots) (t .a .0)
     && (lotInRange (h .lots) (t .b .0)

@@ -7,7 +7,7 @@ use native.Mathlib.Omega.{arith}
 use lib.Dec.{eqb}
 use lib.ListN.{length}
 use Rattle.sheet.specs.declared.Term.{Term}
-use Rattle.sheet.specs.Format.{mostLots, signAt, firstLotAt, secondLotAt}
+use Rattle.sheet.specs.Format.{mostLots, sameSign, signAt, firstLotAt, secondLotAt}
 use Rattle.sheet.specs.Conditions.{termAt, recordsFrom}
 use Rattle.sheet.proofs.Accepted.{SoundRecord, sound, has-record}
 use Rattle.sheet.proofs.ChainEnds.{rest-shorter}
@@ -100,7 +100,7 @@ answer c =
     let s = start .args .sheet .now in
     let r = tested (turn c) .loop .at .0 in
     allows-term (start .args .lots .now) (start .args .table .now) (signAt s r) (firstLotAt s r) (secondLotAt s r)
-    ∙ ap (λ (t : Term). allowsClasses (start .args .table .now) (eqb (t .sign) 1) (classOf (start .args .lots .now) (t .a .0)) (classOf (start .args .lots .now) (t .b .0))) (sym (asked c .term-at .ensures))
+    ∙ ap (λ (t : Term). allowsClasses (start .args .table .now) (eqb (t .sign) sameSign) (classOf (start .args .lots .now) (t .a .0)) (classOf (start .args .lots .now) (t .b .0))) (sym (asked c .term-at .ensures))
     ∙ sym (c .allows .ensures)
 
 returns : tie.Need-returns Inv-loop μ-loop

@@ -9,7 +9,7 @@ use native.Mathlib.Omega.{arith}
 use lib.Dec.{eqb}
 use lib.ListN.{length}
 use Rattle.sheet.specs.declared.Term.{Term}
-use Rattle.sheet.specs.Format.{mostLots, recordCount, signAt, firstLotAt, secondLotAt}
+use Rattle.sheet.specs.Format.{mostLots, sameSign, recordCount, signAt, firstLotAt, secondLotAt}
 use Rattle.sheet.specs.Conditions.{termAt, recordsFrom, termsFrom}
 use Rattle.sheet.proofs.Accepted.{SoundRecord, sound, has-record}
 use Rattle.sheet.proofs.ChainEnds.{rest-shorter}
@@ -118,8 +118,8 @@ false-term c table =
     let r = tested (turn c) .loop .at .0 in
     let term = asked c .term-at in
     allows-term (start .args .lots .now) table (signAt s r) (firstLotAt s r) (secondLotAt s r)
-    ∙ ap (λ (t : Term). allowsClasses table (eqb (t .sign) 1) (classOf (start .args .lots .now) (t .a .0)) (classOf (start .args .lots .now) (t .b .0))) (sym (term .ensures))
-    ∙ simp (ne-eqb (term .result .sign) 1 (other-sign c .if2 .left), eq-eqb _ _ (c .if3 .left))
+    ∙ ap (λ (t : Term). allowsClasses table (eqb (t .sign) sameSign) (classOf (start .args .lots .now) (t .a .0)) (classOf (start .args .lots .now) (t .b .0))) (sym (term .ensures))
+    ∙ simp (ne-eqb (term .result .sign) sameSign (other-sign c .if2 .left), eq-eqb _ _ (c .if3 .left))
 
 loop-less : tie.Need-loop-less Inv-loop μ-loop
 loop-less c =
