@@ -11,6 +11,8 @@ use Rattle.sheet.proofs.Accepted.{Sound, sound}
 use Rattle.sheet.proofs.Scanning.{Scanning, scanning-start, found-here, scanning-next, none-found}
 use Rattle.equality.specs.Meaning.{meetsCondition}
 use Rattle.equality.specs.Evaluator.{numberIn, lowestUnmet}
+use Rattle.evaluator.specs.declared.Evaluation.the-variants.{Unmet}
+use Rattle.evaluator.specs.Answers.{unmetOr}
 use Rattle.evaluator.proofs.Scanning.{lowest-goes}
 use Rattle.evaluator.proofs.first_unmet.Statement.{statement}
 use Rattle.evaluator.proofs.first_unmet.Tie as tie
@@ -69,7 +71,7 @@ returns : tie.Need-returns Inv-loop μ-loop
 returns c =
     let turn = c .before .before .before in
     let lowest = found-here (lowest-goes (numbers turn)) (turn .before .loop .inv) (below turn) (sym (answer (c .before)) ∙ not-true _ (c .if1 .taken)) in
-    rw (lowest, add-one)
+    ap (λ (n : ℕ). Unmet (record { 0 = n })) (add-one (turn .before .loop .c)) ∙ ap unmetOr (sym lowest)
 
 loop-less : tie.Need-loop-less Inv-loop μ-loop
 loop-less c = omega (arith, c .before .before .before .loop-test .taken)
