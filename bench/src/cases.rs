@@ -2,6 +2,7 @@
 use crate::families::{self, chain, circ, colouring, long_condition, mixed, phe, random, two_ways, worst_case};
 use crate::records::MOST;
 use crate::sheets::Sheet;
+use crate::slow::{self, First};
 
 #[derive(Clone, Copy, Debug, PartialEq, Eq)]
 pub enum Answer {
@@ -90,6 +91,70 @@ fn chains() -> Vec<Case> {
     vec![case("chain-128", "chain of 128 lots", "chain", chain(128), Answer::Cannot, 255), two(8), two(12)]
 }
 
+const SLOW: &str = "made to be slow";
+
+/// Hundreds of terms are false by hundreds of pairs at many nodes: the condition that multiplies nodes, the pairs and the terms differ.
+fn slow_products() -> Vec<Case> {
+    let before = |(width, pairs, marked, terms): (usize, usize, usize, usize)| {
+        let (key, name) = (format!("slow-before-{pairs}-{terms}"), format!("slow: {width}, then {pairs} pairs, {terms} terms"));
+        let sheet = slow::product(First::Multiplies, width, pairs, marked, terms);
+        case(&key, &name, SLOW, sheet, Answer::Cannot, slow::product_nodes(width, pairs))
+    };
+    let after = |(width, pairs, marked, terms): (usize, usize, usize, usize)| {
+        let (key, name) = (format!("slow-after-{pairs}-{terms}"), format!("slow: {pairs} pairs, then {width}, {terms} terms"));
+        let sheet = slow::product(First::SetsApart, width, pairs, marked, terms);
+        case(&key, &name, SLOW, sheet, Answer::Cannot, slow::product_nodes(pairs, width))
+    };
+    let mut all: Vec<Case> = [(50, 500, 250, 250), (50, 100, 50, 500)].map(before).into();
+    all.extend([(50, 500, 250, 250), (20, 900, 100, 100), (20, 400, 1, 500)].map(after));
+    all
+}
+
+/// Pairs that all stand set apart at nearly every node, marks on classes of several lots, and marks that another pair makes in each branch.
+fn slow_others() -> Vec<Case> {
+    let steady = case(
+        "slow-steady-200-500",
+        "slow: 200 pairs at each node, 500 terms",
+        SLOW,
+        slow::all_apart(200, 50, 500),
+        Answer::Cannot,
+        slow::steady_nodes(200, 2, 50),
+    );
+    let classes = case(
+        "slow-classes-276-400",
+        "slow: 276 pairs of classes of 4, 400 terms",
+        SLOW,
+        slow::of_classes(4, 31, 276, 138, 400),
+        Answer::Cannot,
+        slow::of_classes_nodes(4, 31, 276),
+    );
+    let star = case(
+        "slow-star-400-400",
+        "slow: 400 pairs of a star, 400 terms",
+        SLOW,
+        slow::star(50, 8, 3, 400),
+        Answer::Cannot,
+        slow::star_nodes(50, 8, 3),
+    );
+    let few = |(few, latest, word): (usize, bool, &str)| {
+        let (key, name) = (format!("slow-{word}-200-{few}"), format!("slow: 200 pairs, {few} terms by the {word}"));
+        case(&key, &name, SLOW, slow::few_false(200, 5, 7, few, latest), Answer::Cannot, slow::steady_nodes(200, 5, 7))
+    };
+    vec![steady, classes, star, few((9, true, "latest")), few((3, false, "earliest"))]
+}
+
 pub fn all() -> Vec<Case> {
-    [long_conditions(), worst_cases(), of_document_001(), random_sheets(), colourings(), chains()].into_iter().flatten().collect()
+    let of_before = [long_conditions(), worst_cases(), of_document_001(), random_sheets(), colourings(), chains()];
+    of_before.into_iter().chain([slow_products(), slow_others()]).flatten().collect()
+}
+
+/// Sheets of one kind for the cost of a node against sizes: a condition of 4 terms multiplies nodes, and each false term is over the pair that was set apart first. The
+/// terms and the pairs, and the sheet.
+pub fn sizes() -> Vec<(usize, usize, Case)> {
+    let one = |(terms, pairs): (usize, usize)| {
+        let (key, name) = (format!("sizes-{terms}-{pairs}"), format!("{terms} terms false, {pairs} pairs apart"));
+        let sheet = slow::product(First::SetsApart, 4, pairs, 1, terms);
+        (terms, pairs, case(&key, &name, SLOW, sheet, Answer::Cannot, slow::product_nodes(pairs, 4)))
+    };
+    [125, 250, 500].into_iter().flat_map(|terms| [125, 250, 500].map(|pairs| (terms, pairs))).map(one).collect()
 }

@@ -1,7 +1,7 @@
 //! Nothing is timed before the contenders agree: in the answer, in the count that the input is known to have, and in every byte of both buffers.
-use crate::families;
-use crate::jobs::{Buffers, Job, Service};
+use crate::jobs::{Buffers, Job, OWN, Service};
 use crate::records::answered;
+use crate::{families, lists};
 
 /// Changed lists are tried where a list is shorter than this.
 const SHORT_LIST: usize = 8 * 10_000;
@@ -69,6 +69,9 @@ pub fn compare(job: &mut Job) {
     agree(job, "");
     let product = job.run(0, &mut Buffers::new());
     assert!(product == job.known, "{}: {product:?}, and not {:?}", job.name, job.known);
+    if job.family == OWN {
+        assert!(job.list == lists::own(lihumbay::raw::search, &job.bytes), "{}: the product's search writes another list", job.name);
+    }
     match job.service {
         Service::Search => {}
         Service::Check if job.list.len() < SHORT_LIST => changed_lists(job),

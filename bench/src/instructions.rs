@@ -11,8 +11,7 @@ const NOTHING: &str = "nothing";
 /// One call of one contender: what is counted.
 pub fn once(service: &str, key: &str, contender: &str) {
     let service = Service::ALL.into_iter().find(|known| known.word() == service).expect("a service: search, check or read");
-    let jobs = jobs::of(service, &|known| known == key);
-    let job = jobs.first().expect("the key of a job");
+    let job = jobs::one(service, key).expect("the key of a job");
     let mut buffers = Buffers::new();
     if let Some(contender) = service.contenders().iter().position(|name| *name == contender) {
         black_box(job.run(contender, &mut buffers));

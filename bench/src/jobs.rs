@@ -1,9 +1,10 @@
 //! What is measured: a service on one input, done by each of its contenders.
 use crate::cases::{self, Answer, Case};
 use crate::families;
+use crate::lists::Joins;
 use crate::records::{MOST, answered, refused};
 use crate::sheets::Sheet;
-use crate::{check, lists, read, search};
+use crate::{check, lists, read, search, slow};
 use lihumbay::raw::Numbers;
 
 #[derive(Clone, Copy, PartialEq, Eq)]
@@ -108,22 +109,18 @@ fn check_job(key: String, name: String, family: &'static str, sheet: Sheet, list
     Job { service: Service::Check, key, name, family, sheet, bytes, list, units, known: answered(0, 0, 0) }
 }
 
-/// The lists by key; a list is made only where it is wanted, since the search's own take a search.
-fn check_jobs(wanted: &dyn Fn(&str) -> bool) -> Vec<Job> {
+/// The family of the search's own refutations. The tuned search makes them, since a set-up counts as many calls; they are compared with what the product writes.
+pub const OWN: &str = "own refutation";
+
+/// The check of what the search writes for a sheet that cannot be met.
+fn own_job(case: Case) -> Job {
+    let (key, name) = (format!("own-{}", case.key), format!("own, {}", case.name));
+    check_job(key, name, OWN, case.sheet, |bytes| lists::own(search::tuned::search, bytes))
+}
+
+/// Lists of grounds of hundreds of "same" terms under hundreds of pairs.
+fn ground_jobs(wanted: &dyn Fn(&str) -> bool) -> Vec<Job> {
     let mut jobs = Vec::new();
-    for case in cases::all().into_iter().chain([cases::deep(1024)]).filter(|case| case.answer == Answer::Cannot) {
-        let key = format!("own-{}", case.key);
-        if wanted(&key) {
-            jobs.push(check_job(key, format!("own, {}", case.name), "own refutation", case.sheet, lists::own));
-        }
-    }
-    for joins in [0, 127] {
-        let key = format!("splits-1024-{joins}");
-        if wanted(&key) {
-            let name = format!("1,024 splits above, {joins} join");
-            jobs.push(check_job(key, name, "slow list", families::deep(1024), |_| lists::deep(joins)));
-        }
-    }
     for (terms, pairs) in [(250, 250), (250, 1000), (500, 500), (500, 1000), (1000, 1000)] {
         let key = format!("grounds-{terms}-{pairs}");
         if wanted(&key) {
@@ -131,6 +128,35 @@ fn check_jobs(wanted: &dyn Fn(&str) -> bool) -> Vec<Job> {
             jobs.push(check_job(key, name, "slow list", families::deep(terms), |_| lists::apart(pairs)));
         }
     }
+    if wanted("growing-500-750") {
+        let name = "grounds of 500 terms, 500 to 750 pairs apart".into();
+        jobs.push(check_job("growing-500-750".into(), name, "slow list", families::deep(500), |_| lists::growing(500, 250)));
+    }
+    for (joins, word, what) in [(Joins::Free, "classes", "other classes"), (Joins::Marked, "moved", "marks moved")] {
+        for (terms, pairs) in [(250, 250), (250, 1000), (500, 500), (1000, 1000)] {
+            let key = format!("{word}-{terms}-{pairs}");
+            if wanted(&key) {
+                let name = format!("grounds of {terms} terms, {pairs} pairs, {what}");
+                let list = |_: &[u8]| lists::joined(slow::ground_pairs(pairs), joins);
+                jobs.push(check_job(key, name, "slow list", slow::grounds(terms, pairs), list));
+            }
+        }
+    }
+    jobs
+}
+
+/// The lists by key; a list is made only where it is wanted, since the search's own take a search.
+fn check_jobs(wanted: &dyn Fn(&str) -> bool) -> Vec<Job> {
+    let refuted = cases::all().into_iter().chain([cases::deep(1024)]).filter(|case| case.answer == Answer::Cannot);
+    let mut jobs: Vec<Job> = refuted.filter(|case| wanted(&format!("own-{}", case.key))).map(own_job).collect();
+    for joins in [0, 127] {
+        let key = format!("splits-1024-{joins}");
+        if wanted(&key) {
+            let name = format!("1,024 splits above, {joins} join");
+            jobs.push(check_job(key, name, "slow list", families::deep(1024), |_| lists::deep(joins)));
+        }
+    }
+    jobs.extend(ground_jobs(wanted));
     jobs
 }
 
@@ -161,4 +187,17 @@ pub fn of(service: Service, wanted: &dyn Fn(&str) -> bool) -> Vec<Job> {
         Service::Read => read_jobs(),
     };
     jobs.into_iter().filter(|job| wanted(&job.key)).collect()
+}
+
+/// For the cost against sizes: the terms and the pairs of a sheet, its search, and the check of its refutation.
+pub fn sizes() -> Vec<(usize, usize, [Job; 2])> {
+    let sizes = || cases::sizes().into_iter();
+    let jobs = |((terms, pairs, first), (_, _, second))| (terms, pairs, [search_job(first), own_job(second)]);
+    sizes().zip(sizes()).map(jobs).collect()
+}
+
+/// The job of a key, those of the sizes among them.
+pub fn one(service: Service, key: &str) -> Option<Job> {
+    let of_sizes = || sizes().into_iter().flat_map(|(_, _, jobs)| jobs).find(|job| job.service == service && job.key == key);
+    of(service, &|known| known == key).into_iter().next().or_else(of_sizes)
 }

@@ -1,6 +1,7 @@
 //! Lists of records for the checker to walk.
 use crate::records::{self, MOST};
-use lihumbay::raw;
+use crate::search::Search;
+use crate::slow::FREE_LOTS;
 
 /// The splits that stand above the tree of a deep list.
 const CHAIN: usize = 1009;
@@ -25,15 +26,30 @@ impl List {
         records::set_next(&mut self.0[split], next);
     }
 
-    /// Splits that decide nothing, as few above each ground as can be.
-    fn tree(&mut self, grounds: usize, condition: usize) {
+    /// Grounds with as few splits above each as can be. The splits at a depth, which counts from 1, name the same lots.
+    fn tree(&mut self, grounds: usize, condition: usize, depth: usize, lots: fn(usize) -> (usize, usize)) {
         if grounds == 1 {
             return self.ground(condition);
         }
-        let split = self.split(1, 1);
-        self.tree(grounds - grounds / 2, condition);
+        let (a, b) = lots(depth);
+        let split = self.split(a, b);
+        self.tree(grounds - grounds / 2, condition, depth + 1, lots);
         self.turn(split);
-        self.tree(grounds / 2, condition);
+        self.tree(grounds / 2, condition, depth + 1, lots);
+    }
+
+    /// Each pair set apart, one split for each; the grounds in their same branches name condition 2, which has no term.
+    fn set_apart(&mut self, pairs: impl IntoIterator<Item = (usize, usize)>) {
+        for (a, b) in pairs {
+            let split = self.split(a, b);
+            self.ground(2);
+            self.turn(split);
+        }
+    }
+
+    /// A tree of as many grounds as a list can still have, where the path above it has only turned splits.
+    fn fill(&mut self, condition: usize, lots: fn(usize) -> (usize, usize)) {
+        self.tree((MOST - self.0.len()).div_ceil(2), condition, 1, lots);
     }
 
     fn bytes(self) -> Vec<u8> {
@@ -42,13 +58,23 @@ impl List {
     }
 }
 
-/// The search's own refutation of a sheet that cannot be met.
-pub fn own(sheet: &[u8]) -> Vec<u8> {
+/// What a search writes for a sheet that cannot be met: the sheet's own refutation.
+pub fn own(search: Search, sheet: &[u8]) -> Vec<u8> {
     let (mut grouping, mut store) = (vec![0; 128], vec![0; 8 * MOST]);
-    let numbers = raw::search(sheet, &mut grouping, &mut store);
+    let numbers = search(sheet, &mut grouping, &mut store);
     assert!((numbers.check, numbers.first) == (0, 2), "the sheet isn't one that cannot be met");
     store.truncate(8 * numbers.second as usize);
     store
+}
+
+/// Splits that name lot 1 twice: they decide nothing, and the classes stay as they are.
+fn no_join(_: usize) -> (usize, usize) {
+    (1, 1)
+}
+
+/// The first pairs a < b of 128 lots.
+fn first_pairs() -> impl Iterator<Item = (usize, usize)> {
+    (1..=128).flat_map(|a| (a + 1..=128).map(move |b| (a, b)))
 }
 
 /// For a sheet whose condition 2 has no term: 1,009 splits, and below them, in their same branches, a tree of 31,759 grounds that each stand under 1,023 or 1,024
@@ -56,7 +82,7 @@ pub fn own(sheet: &[u8]) -> Vec<u8> {
 pub fn deep(joins: usize) -> Vec<u8> {
     let mut list = List::default();
     let splits: Vec<usize> = (0..CHAIN).map(|i| if i < joins { list.split(i + 1, i + 2) } else { list.split(1, 1) }).collect();
-    list.tree((MOST - 2 * CHAIN).div_ceil(2), 2);
+    list.tree((MOST - 2 * CHAIN).div_ceil(2), 2, 1, no_join);
     for split in splits.into_iter().rev() {
         list.turn(split);
         list.ground(2);
@@ -64,15 +90,44 @@ pub fn deep(joins: usize) -> Vec<u8> {
     list.bytes()
 }
 
-/// For the same sheet: the first `pairs` pairs a < b of 128 lots set apart, one split for each, and below them a tree of as many grounds as a list can still have,
-/// which all name condition 1.
+/// For the same sheet: the first `pairs` pairs of 128 lots set apart, and below them grounds that all name condition 1, under the same classes.
 pub fn apart(pairs: usize) -> Vec<u8> {
     let mut list = List::default();
-    for (a, b) in (1..=128).flat_map(|a| (a + 1..=128).map(move |b| (a, b))).take(pairs) {
-        let split = list.split(a, b);
-        list.ground(2);
+    list.set_apart(first_pairs().take(pairs));
+    list.fill(1, no_join);
+    list.bytes()
+}
+
+/// For the same sheet, under the same classes too, but pairs come to be set apart between the grounds: the first `pairs`, and then one more after each 64 grounds.
+pub fn growing(pairs: usize, more: usize) -> Vec<u8> {
+    let mut list = List::default();
+    list.set_apart(first_pairs().take(pairs));
+    for pair in first_pairs().skip(pairs).take(more) {
+        let split = list.split(1, 1);
+        list.tree(64, 1, 1, no_join);
         list.turn(split);
+        list.set_apart([pair]);
     }
-    list.tree((MOST - 2 * pairs).div_ceil(2), 1);
+    list.ground(1);
+    list.bytes()
+}
+
+/// What the splits above two grounds that follow each other join, in the tree below the pairs.
+#[derive(Clone, Copy, PartialEq, Eq)]
+pub enum Joins {
+    /// Lots that no pair has.
+    Free,
+    /// A lot of many pairs with a smaller one, so that its class has another number and its marks lie elsewhere.
+    Marked,
+}
+
+/// For `slow::grounds`: its pairs set apart, and below them grounds that all name condition 1; of two that follow each other no one has the other's classes.
+pub fn joined(pairs: impl IntoIterator<Item = (usize, usize)>, joins: Joins) -> Vec<u8> {
+    let mut list = List::default();
+    list.set_apart(pairs);
+    match joins {
+        Joins::Free => list.fill(1, |depth| (1, 1 + depth)),
+        Joins::Marked => list.fill(1, |depth| (depth, FREE_LOTS + depth)),
+    }
     list.bytes()
 }

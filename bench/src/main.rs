@@ -19,6 +19,8 @@ mod rounds;
 mod rows;
 mod search;
 mod sheets;
+mod sizes;
+mod slow;
 mod stack;
 mod svg;
 mod tables;
@@ -28,6 +30,7 @@ mod z3;
 use std::process::ExitCode;
 
 const USAGE: &str = "measure all [quick]       compare, time, count instructions, run z3 and the stack test, write data, plots and tables
+measure sizes             count the instructions of a node against the sizes of a sheet, and write its table
 measure report            write the plots and tables again from the data
 measure compare           compare alone
 measure stack             run the deepest search and check on the program's own stack
@@ -38,6 +41,7 @@ fn main() -> ExitCode {
     match words.iter().map(String::as_str).collect::<Vec<_>>()[..] {
         ["all"] => report::measure(rounds::Plan { rounds: 9, batch: 0.1 }),
         ["all", "quick"] => report::measure(rounds::Plan { rounds: 3, batch: 0.02 }),
+        ["sizes"] => report::measure_sizes(),
         ["report"] => report::write(),
         ["compare"] => report::compare_all(),
         ["stack"] => stack::on_own(),

@@ -2,7 +2,7 @@
 use crate::jobs::{self, Buffers, Job, Service};
 use crate::rounds::{self, Plan};
 use crate::rows::{self, Row};
-use crate::{compare, instructions, plots, stack, tables, z3};
+use crate::{compare, instructions, plots, sizes, stack, tables, z3};
 use std::fs;
 use std::hint::black_box;
 use std::path::{Path, PathBuf};
@@ -135,8 +135,15 @@ pub fn measure(plan: Plan) {
     let rows: Vec<Row> = Service::ALL.into_iter().flat_map(|service| measure_service(plan, service)).collect();
     save("machine.txt", &format!("{} rounds of {} s; {machine}", plan.rounds, plan.batch));
     save("times.tsv", &rows::write(&rows));
+    save("sizes.tsv", &sizes::measure());
     save("stack.tsv", &measure_stack());
     save("z3.tsv", &measure_z3(&rows));
+    write();
+}
+
+/// The cost against sizes alone: it is counted and not timed, so that it can be had by itself.
+pub fn measure_sizes() {
+    save("sizes.tsv", &sizes::measure());
     write();
 }
 
@@ -154,6 +161,7 @@ pub fn write() {
         ("search instructions", tables::instructions(&rows, "search")),
         ("check times", tables::times(&rows, "check", "Record")),
         ("check instructions", tables::instructions(&rows, "check")),
+        ("sizes", tables::plain(&load("sizes.tsv"))),
         ("read times", tables::times(&rows, "read", "Term")),
         ("read instructions", tables::instructions(&rows, "read")),
         ("z3", tables::plain(&load("z3.tsv"))),
