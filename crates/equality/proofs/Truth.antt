@@ -41,7 +41,7 @@ joined-equal x y p q e = go (eqb p x || eqb p y) (eqb q x || eqb q y) refl refl 
 
 -- ---- a mark is on the two classes, in whichever order
 
-marked-sym : (cs : List ℕ) (ds : Decisions) (x y : ℕ) → marked cs ds x y ≡ marked cs ds y x
+pub marked-sym : (cs : List ℕ) (ds : Decisions) (x y : ℕ) → marked cs ds x y ≡ marked cs ds y x
 unfolding marked
 marked-sym cs [] x y = refl
 marked-sym cs (same a b ∷ ds) x y = marked-sym cs ds x y

@@ -1,0 +1,3 @@
+mod Bits
+mod Bytes
+pub mod Marks

@@ -1,0 +1,93 @@
+-- Laws of a table of marks, for whoever marks classes in it and asks.
+use Prim.Native.Nat.{ℕ, _*_, _+_, _≤_, _<_}
+use mathlib.Core.Bool.{Bool, true, false, _&&_, _||_}
+use mathlib.Core.List.{List, [], _∷_}
+use mathlib.Core.Path.{_≡_, refl, sym, ap, _∙_}
+use native.Mathlib.Numerals.{add-one}
+use native.Mathlib.Omega.{arith}
+use lib.Dec.{eqb}
+use lib.ListN.{getD}
+use Rattle.sheet.specs.Format.{mostLots}
+use Rattle.sheet.specs.Conditions.{same, apart}
+use Rattle.equality.specs.Node.{Decisions, classOf, between, marked, markedApart}
+use Rattle.equality.proofs.Truth.{marked-sym}
+use Rattle.classes.specs.declared.Classes.{Classes}
+use Rattle.classes.specs.Maps.{ClassesWithin}
+use Rattle.classes.specs.Pairs.{setApart, PairsWithin, onlyApart, Represents}
+use Rattle.classes.proofs.Path.{marked-only, setApart-below, marked-says}
+use Rattle.marks.specs.Marks.{bitAt, Unmarked, Marks, Outside, MarkedToo}
+
+-- ---- decision by decision
+
+module _ {at : ℕ} {cs : List ℕ} where
+  -- No decision marks nothing,
+  pub marks-none : {l : List ℕ} → Unmarked l at → Marks l at cs []
+  unfolding marked
+  marks-none u = record { says = u .none }
+
+  pub none-marks : {l : List ℕ} → Marks l at cs [] → Unmarked l at
+  unfolding marked
+  none-marks m = record { none = m .says }
+
+  -- a pair set same marks nothing more,
+  pub marks-same : {l : List ℕ} {ds : Decisions} (a b : ℕ) → Marks l at cs ds → Marks l at cs (same a b ∷ ds)
+  unfolding marked
+  marks-same a b m = record { says = m .says }
+
+  -- and a pair set apart the classes of its lots.
+  pub marks-apart : {before after : List ℕ} {ds : Decisions} (a b : ℕ) → Marks before at cs ds → MarkedToo before after at (classOf cs a) (classOf cs b)
+      → Marks after at cs (apart a b ∷ ds)
+  unfolding marked
+  marks-apart a b m t =
+      record { says = λ x y hx hy. t .bits x y hx hy ∙ ap (λ (p : Bool). between cs x y a b || p) (m .says x y hx hy) }
+
+-- Which of the decisions are "apart" is all that matters.
+pub marks-only : {l : List ℕ} {at : ℕ} {cs : List ℕ} (ds : Decisions) → Marks l at cs (onlyApart ds) → Marks l at cs ds
+marks-only {cs = cs} ds m = record { says = λ x y hx hy. m .says x y hx hy ∙ sym (marked-only cs ds x y) }
+
+-- ---- what the table says
+
+-- Two classes are marked in whichever order,
+pub marks-either-way : {l : List ℕ} {at : ℕ} {cs : List ℕ} {ds : Decisions} → Marks l at cs ds → (x y : ℕ) → x ≤ mostLots → y ≤ mostLots
+    → bitAt l at x y ≡ bitAt l at y x
+marks-either-way {cs = cs} {ds = ds} m x y hx hy = m .says x y hx hy ∙ marked-sym cs ds x y ∙ sym (m .says y x hy hx)
+
+-- and marked once more they are as they were.
+pub marked-again : {before between after : List ℕ} {at x y : ℕ} → MarkedToo before between at x y → MarkedToo between after at x y
+    → (u v : ℕ) → u ≤ mostLots → v ≤ mostLots → bitAt after at u v ≡ bitAt between at u v
+marked-again {before} {at = at} {x = x} {y = y} s t u v hu hv =
+    t .bits u v hu hv ∙ rw (s .bits u v hu hv) (twice (eqb x u && eqb y v || eqb x v && eqb y u) (bitAt before at u v))
+  where
+    twice : (p b : Bool) → (p || (p || b)) ≡ (p || b)
+    twice true b = refl
+    twice false b = refl
+
+-- The table of a path's pairs says whether the classes of two lots are marked apart.
+pub marks-say : {map : Classes} {bytes : List ℕ} {count : ℕ} {ds : Decisions} → Represents map bytes count ds → ClassesWithin (map .lots)
+    → {l : List ℕ} {at : ℕ} → Marks l at (map .lots) (setApart bytes count)
+    → (a b : ℕ) → a ≤ mostLots → b ≤ mostLots → bitAt l at (classOf (map .lots) a) (classOf (map .lots) b) ≡ markedApart ds a b
+marks-say r within m a b ha hb = m .says _ _ (within a ha) (within b hb) ∙ marked-says r a b
+
+-- ---- the pairs in front of it
+
+module _ {before after : List ℕ} {at : ℕ} (o : Outside before after at) (count : ℕ) (h : 2 * count ≤ at) where
+  pub outside-pairs : setApart after count ≡ setApart before count
+  outside-pairs = setApart-below before after count (λ i lt. o .front i (omega arith))
+
+  pub outside-within : PairsWithin before count → PairsWithin after count
+  outside-within w =
+      record {
+        within = omega (arith, o .size, w .within);
+        lots = λ i lt. rw (o .front i (omega arith)) (w .lots i lt);
+      }
+
+-- The next of the pairs is marked, as it stands while the table is changed.
+pub marks-pair : {before between after : List ℕ} {at : ℕ} {cs : List ℕ} (i : ℕ) → Outside before between at → 2 * (i + 1) ≤ at
+    → Marks between at cs (setApart before i)
+    → MarkedToo between after at (classOf cs (getD between (2 * i) 0)) (classOf cs (getD between (2 * i + 1) 0))
+    → Marks after at cs (setApart before (i + 1))
+unfolding setApart
+marks-pair {before} i o h m t =
+    let first = o .front (2 * i) (omega arith) in
+    let second = o .front (2 * i + 1) (omega arith) in
+    rw (add-one i) (marks-apart (getD before (2 * i) 0) (getD before (2 * i + 1) 0) m (rw (first, second) at t))
