@@ -19,7 +19,9 @@ use Rattle.equality.specs.Node.{Decisions, classes, classOf, takes, taken}
 use Rattle.equality.specs.Meaning.{holds, meetsCondition}
 use Rattle.equality.proofs.Some.{some-any}
 use Rattle.equality.proofs.Passing.{Passing, passing-start, found, passing-next, ended}
-use Rattle.node.proofs.Scanning.{Scanning, scanning-start, taken-here, scanning-next, none-taken, taken-by-map, term-flag}
+use Rattle.equality.proofs.Node.{lowestTaken}
+use Rattle.sheet.proofs.Scanning.{Scanning, scanning-start, found-here, scanning-next, none-found}
+use Rattle.node.proofs.Scanning.{taken-goes, taken-by-map, term-flag}
 use Rattle.node.specs.Settled.{settledBy, Settled, Later}
 use Rattle.node.specs.Place.{ResumesWithin}
 use Rattle.node.proofs.Settling.{some-found, settled-met, found-sharing, sharing-flag, later-none, settled-next}
@@ -35,7 +37,7 @@ abbrev μ-terms : tie.MeasureT-terms
 
 abbrev Inv-conditions : tie.InvT-conditions
 Inv-conditions sheet m levels₀ level lots c₀ levels c =
-    Scanning (classOf lots) sheet c × Settled lots sheet levels level × Later levels₀ levels level
+    Scanning (lowestTaken (classOf lots)) sheet c × Settled lots sheet levels level × Later levels₀ levels level
 
 abbrev μ-conditions : tie.MeasureT-conditions
 μ-conditions sheet m levels₀ level lots c₀ levels c = m - c
@@ -141,8 +143,8 @@ conditions-less : tie.Need-conditions-less Inv-terms μ-terms Inv-conditions μ-
 conditions-less c = omega (arith, c .before .before .if1 .left)
 
 -- The next turn begins where this condition is met.
-passed : (c : Turn) → Meets c true → Scanning (classOf (lots c)) (bytes c) (number c + 1)
-passed c e = rw add-one (scanning-next (classOf (lots c)) (bytes c) (number c) (c .before .conditions .inv .0) (numbered c) e)
+passed : (c : Turn) → Meets c true → Scanning (lowestTaken (classOf (lots c))) (bytes c) (number c + 1)
+passed c e = rw add-one (scanning-next (taken-goes (classOf (lots c))) (c .before .conditions .inv .0) (numbered c) e)
 
 -- A condition that has a level is settled, so it is met.
 conditions-again : tie.Need-conditions-again Inv-terms μ-terms Inv-conditions μ-conditions
@@ -307,7 +309,7 @@ returns c =
       (λ ds says.
           sym
           (taken-by-map (start .args .map .lots) (conditions (start .args .sheet .now))
-          (none-taken (classOf (start .args .map .lots)) (start .args .sheet .now) (c .before .conditions .c) (inv .0) (omega (arith, c .if1 .taken, start .pre .0 .counted))) ds says)),
+          (none-found (taken-goes (classOf (start .args .map .lots))) (inv .0) (omega (arith, c .if1 .taken, start .pre .0 .counted))) ds says)),
       (tt, (inv .1, inv .2)),
     )
 
@@ -325,7 +327,7 @@ condition-taken : (c : Over) (ds : Decisions) → lots (turn-of (over c)) ≡ cl
     → taken ds 1 (conditions (bytes (turn-of (over c)))) ≡ takes (number (turn-of (over c)) + 1) (conditionAt (bytes (turn-of (over c))) (number (turn-of (over c)) + 1))
 condition-taken c ds says =
     let d = turn-of (over c) in
-    sym (taken-by-map (lots d) (conditions (bytes d)) (taken-here (classOf (lots d)) (bytes d) (number d) (d .before .conditions .inv .0) (numbered d) (unmet c)) ds says)
+    sym (taken-by-map (lots d) (conditions (bytes d)) (found-here (taken-goes (classOf (lots d))) (d .before .conditions .inv .0) (numbered d) (unmet c)) ds says)
     ∙ ap (λ (k : ℕ). takes k (conditionAt (bytes d) k)) (sym (add-one (number d)))
 
 resumes-within : (c : Over) (ds : Decisions) → lots (turn-of (over c)) ≡ classes ds
