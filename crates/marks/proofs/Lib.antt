@@ -1,3 +1,3 @@
 mod Bits
-mod Bytes
+pub mod Bytes
 pub mod Marks

@@ -71,15 +71,15 @@ marks-say r within m a b ha hb = m .says _ _ (within a ha) (within b hb) ∙ mar
 -- ---- the pairs in front of it
 
 module _ {before after : List ℕ} {at : ℕ} (o : Outside before after at) (count : ℕ) (h : 2 * count ≤ at) where
+  -- They are as they were, and so is what they say.
+  pub outside-front : (i : ℕ) → i < 2 * count → getD after i 0 ≡ getD before i 0
+  outside-front i lt = o .front i (omega arith)
+
   pub outside-pairs : setApart after count ≡ setApart before count
-  outside-pairs = setApart-below before after count (λ i lt. o .front i (omega arith))
+  outside-pairs = setApart-below before after count outside-front
 
   pub outside-within : PairsWithin before count → PairsWithin after count
-  outside-within w =
-      record {
-        within = omega (arith, o .size, w .within);
-        lots = λ i lt. rw (o .front i (omega arith)) (w .lots i lt);
-      }
+  outside-within w = record { within = omega (arith, o .size, w .within); lots = λ i lt. rw (outside-front i lt) (w .lots i lt) }
 
 -- The next of the pairs is marked, as it stands while the table is changed.
 pub marks-pair : {before between after : List ℕ} {at : ℕ} {cs : List ℕ} (i : ℕ) → Outside before between at → 2 * (i + 1) ≤ at

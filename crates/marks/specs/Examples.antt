@@ -1,11 +1,11 @@
 -- Where the bits of a table stand, and which of them a pair sets, by computation.
 use Prim.Native.Nat.{ℕ, _+_}
-use mathlib.Core.Bool.{Bool, true, false}
+use mathlib.Core.Bool.{true, false}
 use mathlib.Core.List.{List, [], _∷_, map}
 use mathlib.Core.Path.{_≡_, refl}
 use lib.ListN.{length, getD, replicate}
 use Rattle.sheet.specs.Conditions.{same, apart, countUp}
-use Rattle.equality.specs.Node.{Decisions, merged, classOf, classes, marked}
+use Rattle.equality.specs.Node.{Decisions, merged, classes, marked}
 use Rattle.marks.specs.Marks.{tableLength, bitOf, place, bitAt, withBit}
 
 -- The first bits of a row, the first of the next, and the last of all, whose byte is the table's last.
