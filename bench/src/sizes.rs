@@ -4,12 +4,13 @@ use crate::axis::grouped;
 use crate::jobs::{self, Job};
 use crate::{compare, instructions, tables};
 
-const HEADER: &str = "Terms false\tPairs apart\tBytes\tNodes\tSearch: product\tplain\ttuned\tCheck: product\tplain\ttuned\n";
+const HEADER: &str = "Terms false\tPairs apart\tBytes\tNodes\tSearch: product\tplain\tplain, kept\ttuned\tCheck: product\tplain\ttuned\n";
 
-/// Instructions a node or a record of the product, the plain and the tuned contender; nothing where valgrind isn't there.
+/// Instructions a node or a record of the contenders that don't check the sheet, and of the product; nothing where valgrind isn't there.
 fn costs(job: &Job) -> Option<Vec<String>> {
-    let counts = instructions::of(job).into_iter().take(3);
-    counts.map(|count| Some(tables::short(count? as f64 / job.units as f64))).collect()
+    let counts = job.service.contenders().into_iter().zip(instructions::of(job));
+    let shown = counts.filter(|(name, _)| *name != "tuned, checked");
+    shown.map(|(_, count)| Some(tables::short(count? as f64 / job.units as f64))).collect()
 }
 
 /// A line for each sheet, fields parted by tabs.

@@ -1,5 +1,6 @@
 //! The searches that are compared.
 mod layout;
+mod node_marks;
 pub mod plain;
 pub mod tuned;
 
@@ -41,5 +42,10 @@ fn tuned_checked(sheet: &[u8], grouping: &mut [u8], store: &mut [u8]) -> Numbers
 }
 
 /// The searches by name; the first is the product's.
-pub const ALL: [(&str, Search); 4] =
-    [("product", lihumbay::raw::search), ("plain", plain::search), ("tuned", tuned::search), ("tuned, checked", tuned_checked)];
+pub const ALL: [(&str, Search); 5] = [
+    ("product", lihumbay::raw::search),
+    ("plain", plain::search),
+    ("plain, kept", plain::search_kept),
+    ("tuned", tuned::search),
+    ("tuned, checked", tuned_checked),
+];

@@ -1,7 +1,7 @@
 //! The search of document 01 word for word: each node looks at every condition from the first on, and gives each term its value by the node's classes and marks.
-//! It doesn't check the sheet.
-use crate::marks::Marks;
+//! It doesn't check the sheet. There are two, which differ in their marks alone.
 use crate::records;
+use crate::search::node_marks::{Kept, NodeMarks, Stamped};
 use crate::search::{End, answer};
 use crate::terms::{self, Term};
 use lihumbay::raw::Numbers;
@@ -34,18 +34,15 @@ enum Node {
     Split(Term),
 }
 
-struct Search<'a> {
+struct Search<'a, Marks> {
     conditions: Vec<Vec<Term>>,
-    /// The pairs that the path sets apart.
-    apart: Vec<(u8, u8)>,
-    /// The marks of the node that is looked at; none between two nodes.
     marks: Marks,
     grouping: &'a mut [u8],
     records: &'a mut [[u8; 8]],
     count: usize,
 }
 
-impl Search<'_> {
+impl<Marks: NodeMarks> Search<'_, Marks> {
     fn value(&self, classes: &Classes, term: Term) -> Value {
         let (x, y) = (classes.of(term.a), classes.of(term.b));
         if x == y {
@@ -82,11 +79,11 @@ impl Search<'_> {
         Node::Met
     }
 
-    /// The node with the marks made for it.
+    /// The node with its marks.
     fn marked_node(&mut self, classes: &Classes) -> Node {
-        self.marks.stamp(&classes.0, self.apart.iter().copied(), true);
+        self.marks.look(&classes.0, true);
         let node = self.node(classes);
-        self.marks.stamp(&classes.0, self.apart.iter().copied(), false);
+        self.marks.look(&classes.0, false);
         node
     }
 
@@ -118,7 +115,9 @@ impl Search<'_> {
     fn branches(&mut self, classes: &Classes, term: Term) -> End {
         let here = self.count;
         self.write(records::split(usize::from(term.a) + 1, usize::from(term.b) + 1));
+        let join = self.marks.join(classes.of(term.a), classes.of(term.b));
         let end = self.visit(&classes.joined(term.a, term.b));
+        self.marks.undo_join(join);
         if end != End::Cannot {
             return end;
         }
@@ -126,19 +125,18 @@ impl Search<'_> {
             return End::Full;
         }
         records::set_next(&mut self.records[here], self.count + 1);
-        self.apart.push((term.a, term.b));
+        self.marks.set_apart(&classes.0, term.a, term.b);
         let end = self.visit(classes);
-        self.apart.pop();
+        self.marks.undo_apart(&classes.0, term.a, term.b);
         end
     }
 }
 
-pub fn search(sheet: &[u8], grouping: &mut [u8], store: &mut [u8]) -> Numbers {
+fn search_by<Marks: NodeMarks>(sheet: &[u8], grouping: &mut [u8], store: &mut [u8]) -> Numbers {
     let (lots, conditions, _) = terms::header(sheet);
     let mut search = Search {
         conditions: (0..conditions).map(|c| terms::chain(sheet, c).collect()).collect(),
-        apart: Vec::new(),
-        marks: Marks::new(),
+        marks: Marks::new(lots),
         grouping: &mut grouping[..lots],
         records: records::of_store(store),
         count: 0,
@@ -146,4 +144,14 @@ pub fn search(sheet: &[u8], grouping: &mut [u8], store: &mut [u8]) -> Numbers {
     let end = search.visit(&Classes(std::array::from_fn(|lot| lot as u8)));
     let count = search.count;
     answer(end, search.records, count)
+}
+
+/// With marks that are set and cleared at each node.
+pub fn search(sheet: &[u8], grouping: &mut [u8], store: &mut [u8]) -> Numbers {
+    search_by::<Stamped>(sheet, grouping, store)
+}
+
+/// With marks that are kept along the path.
+pub fn search_kept(sheet: &[u8], grouping: &mut [u8], store: &mut [u8]) -> Numbers {
+    search_by::<Kept>(sheet, grouping, store)
 }
