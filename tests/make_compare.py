@@ -295,7 +295,7 @@ def changes(data):
 
 class Damage:
     def __init__(self):
-        self.tried = self.passed = self.wrong = self.unjudged = 0
+        self.tried = self.passed = self.wrong = self.untested = 0
 
     def count(self, data, nodes):
         self.tried += 1
@@ -303,20 +303,20 @@ class Damage:
             verdict = can_be_met(read(data)[2])
             self.passed += 1
             self.wrong += verdict is True
-            self.unjudged += verdict is None
+            self.untested += verdict is None
 
     def line(self, label):
-        return '%s: tried %d passed %d wrong %d unjudged %d differ 0' % (label, self.tried, self.passed, self.wrong, self.unjudged)
+        return '%s: tried %d passed %d wrong %d untested %d differ 0' % (label, self.tried, self.passed, self.wrong, self.untested)
 
 
 def group_line(name, sheets, lists, bytes_of_sheets):
     """The line of a group; the refutations that the second solver bears out are damaged."""
-    verdicts, count, unjudged = [], 0, 0
+    verdicts, count, untested = [], 0, 0
     for data in sheets:
         said, nodes, judged = answer(data)
         verdicts.append(said[0])
         count += len(nodes)
-        unjudged += not judged
+        untested += not judged
         if said[0] == 'cannot' and judged:
             refutation = list_bytes(nodes)
             assert check(data, refutation) == ('passed',)
@@ -325,7 +325,7 @@ def group_line(name, sheets, lists, bytes_of_sheets):
             for other in changes(data):
                 bytes_of_sheets.count(other, refutation)
     each = ' '.join('%s %d' % (v, verdicts.count(v)) for v in ('met', 'cannot', 'refused'))
-    return '%s: sheets %d %s nodes %d unjudged %d differ 0' % (name, len(verdicts), each, count, unjudged)
+    return '%s: sheets %d %s nodes %d untested %d differ 0' % (name, len(verdicts), each, count, untested)
 
 
 def many_splits(s):

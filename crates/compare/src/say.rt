@@ -17,7 +17,7 @@ pub fn tally(tally: Tally) {
     field(b" cannot ", tally.cannot);
     field(b" refused ", tally.refused);
     field(b" nodes ", tally.nodes);
-    field(b" unjudged ", tally.unjudged);
+    field(b" untested ", tally.untested);
     field(b" differ ", tally.differ);
     io::write_all(STDOUT_FILENO, b"\n");
 }
@@ -27,7 +27,7 @@ pub fn damage(label: &[u8], damage: Damage) {
     field(b": tried ", damage.tried);
     field(b" passed ", damage.passed);
     field(b" wrong ", damage.wrong);
-    field(b" unjudged ", damage.unjudged);
+    field(b" untested ", damage.untested);
     field(b" differ ", damage.differ);
     io::write_all(STDOUT_FILENO, b"\n");
 }

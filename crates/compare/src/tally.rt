@@ -8,7 +8,7 @@ pub struct Tally {
     pub cannot: u32,
     pub refused: u32,
     pub nodes: u32,
-    pub unjudged: u32,
+    pub untested: u32,
     pub differ: u32,
 }
 
@@ -18,7 +18,7 @@ pub struct Damage {
     pub tried: u32,
     pub passed: u32,
     pub wrong: u32,
-    pub unjudged: u32,
+    pub untested: u32,
     pub differ: u32,
 }
 
@@ -49,7 +49,7 @@ impl Tally {
             cannot: 0,
             refused: 0,
             nodes: 0,
-            unjudged: 0,
+            untested: 0,
             differ: 0,
         }
     }
@@ -66,7 +66,7 @@ impl Tally {
             } else {
                 self.nodes
             },
-            unjudged: plus(self.unjudged, verdict == 0),
+            untested: plus(self.untested, verdict == 0),
             differ: plus(self.differ, differs),
         }
     }
@@ -78,7 +78,7 @@ impl Damage {
             tried: 0,
             passed: 0,
             wrong: 0,
-            unjudged: 0,
+            untested: 0,
             differ: 0,
         }
     }
@@ -89,7 +89,7 @@ impl Damage {
             tried: plus(self.tried, true),
             passed: plus(self.passed, passed),
             wrong: plus(self.wrong, verdict == 1),
-            unjudged: plus(self.unjudged, verdict == 0),
+            untested: plus(self.untested, verdict == 0),
             differ: plus(self.differ, differs),
         }
     }

@@ -55,12 +55,6 @@ module _ (p : Term → Bool) where
   any-here [] t after e = rw e
   any-here (u ∷ before) t after e = rw (any-here before t after e) (or-true (p u))
 
-  -- Where one term is such, some is.
-  pub some-here : (before : List Term) (t : Term) (after : List Term) → p t ≡ true → someTerm p (before ++ t ∷ after) ≡ true
-  unfolding someTerm
-  some-here [] t after e = rw e
-  some-here (u ∷ before) t after e = rw (any-here before t after e) (or-true (p u))
-
   -- Two tests that agree at each term of a condition agree on the condition;
   pub any-agree : (q : Term → Bool) (ts : List Term) → All (λ t. p t ≡ q t) ts → anyTerm p ts ≡ anyTerm q ts
   unfolding anyTerm

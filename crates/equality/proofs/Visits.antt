@@ -148,3 +148,7 @@ module _ (tss : List (List Term)) where
   -- Theorem 4: no path has more splits than there are "same" terms.
   pub search-depth : depth (searchTree tss) ≤ allSameTerms tss
   search-depth = omega (arith, depth-measure (nodeRule tss) Any (λ ds. allOpens ds tss) node-branches search-visits tt, opens-all-same [] tss)
+
+  -- Fuel never decides the search.
+  pub search-fuel : (fuel fuel′ : ℕ) (ds : Decisions) → allOpens ds tss < fuel → allOpens ds tss < fuel′ → visit (nodeRule tss) fuel ds ≡ visit (nodeRule tss) fuel′ ds
+  search-fuel fuel fuel′ ds h h′ = fuel-never-decides (nodeRule tss) Any (λ ds. allOpens ds tss) node-branches fuel fuel′ ds tt h h′

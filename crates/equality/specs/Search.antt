@@ -35,8 +35,8 @@ visitNode visitBranch ds (ground c) = groundLeaf c
 visitNode visitBranch ds (split a b) =
     let t = visitBranch (same a b ∷ ds) in afterSame visitBranch ds a b t (isMet t)
 
--- The visit of the node of these decisions, by a rule that says what the node is. "No path has more splits than the sheet has "same" terms.", so any `fuel` above the "same"
--- terms gives the same tree, and fuel never decides.
+-- The visit of the node of these decisions, by a rule that says what the node is. Fuel that is above a measure which falls at each split never decides
+-- (`fuel-never-decides`). By document 01's rule "No path has more splits than the sheet has "same" terms.", so any fuel above those is enough (`search-fuel`).
 unfoldable pub visit : (Decisions → Node) → ℕ → Decisions → Tree
 visit rule zero ds = groundLeaf 0
 visit rule (suc fuel) ds = visitNode (visit rule fuel) ds (rule ds)

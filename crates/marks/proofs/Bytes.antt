@@ -8,7 +8,7 @@ use native.Mathlib.Omega.{arith}
 use borrow.Author.Tests.{eqb-true, eqb-false, eq-eqb, ne-eqb}
 use lib.Bits.{bitOr}
 use lib.Dec.{eqb}
-use lib.ListN.{length, getD, set, take, drop, replicate, length-set, length-append, length-take, length-drop, getD-replicate, List·getD-append}
+use lib.ListN.{length, getD, take, drop, replicate, length-set, length-append, length-take, length-drop, getD-replicate, List·getD-append}
 use lib.Seq.{length-take-le, getD-set-same, getD-set-other, getD-append-add, getD-take, getD-drop}
 use Rattle.sheet.specs.Format.{mostLots}
 use Rattle.marks.specs.Marks.{rowLength, tableLength, bitOf, place, bitAt, withBit, Room, Unmarked, Outside, MarkedToo}
@@ -34,15 +34,15 @@ module _ (at x y u v : ℕ) (hx : x ≤ mostLots) (hy : y ≤ mostLots) (hu : u 
   pub same-row : place at u v ≡ place at x y → u ≡ x
   same-row e = omega arith
 
-  pub same-class : place at u v ≡ place at x y → v % 8 ≡ y % 8 → v ≡ y
-  same-class e f = omega arith
+  pub same-bit : place at u v ≡ place at x y → v % 8 ≡ y % 8 → v ≡ y
+  same-bit e f = omega arith
 
   -- and so says the test on both classes.
   one-byte : place at u v ≡ place at x y → eqb (v % 8) (y % 8) ≡ (eqb u x && eqb v y)
   one-byte e = go (eqb (v % 8) (y % 8)) refl
     where
       go : (p : Bool) → eqb (v % 8) (y % 8) ≡ p → p ≡ (eqb u x && eqb v y)
-      go true f = sym (rw (eq-eqb u x (same-row e), eq-eqb v y (same-class e (eqb-true (v % 8) (y % 8) f))))
+      go true f = sym (rw (eq-eqb u x (same-row e), eq-eqb v y (same-bit e (eqb-true (v % 8) (y % 8) f))))
       go false f =
           let other : eqb v y ≡ false = ne-eqb v y (λ g. eqb-false (v % 8) (y % 8) f (omega arith)) in
           sym (rw (eq-eqb u x (same-row e), other))

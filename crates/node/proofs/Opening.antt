@@ -7,7 +7,7 @@ use mathlib.Core.Logic.{_≢_}
 use mathlib.Core.Path.{_≡_, refl, sym, ap, _∙_}
 use borrow.Author.Tests.{ne-eqb}
 use native.Mathlib.Omega.{arith}
-use Rattle.sheet.specs.Format.{recordCount, nextAt}
+use Rattle.sheet.specs.Format.{sameSign, recordCount, nextAt}
 use Rattle.sheet.specs.Checks.{Accepted}
 use Rattle.sheet.specs.Conditions.{Term, same, apart, termOf, termAt, termsFrom}
 use Rattle.buffers.specs.Lists.{All}
@@ -88,7 +88,7 @@ pub sign-same : (sign a b : ℕ) → sign ≡ 1 → termOf sign a b ≡ same a b
 sign-same sign a b e = rw e
 
 pub sign-apart : (sign a b : ℕ) → sign ≢ 1 → termOf sign a b ≡ apart a b
-sign-apart sign a b n = rw (ne-eqb sign 1 n)
+sign-apart sign a b n = rw (ne-eqb sign sameSign n)
 
 -- Of the chain from record `from` on, the terms before record `at` are closed by the marks.
 pub record Opening (marks : ℕ → ℕ → Bool) (s : List ℕ) (from at : ℕ) : Type 0 where

@@ -4,6 +4,7 @@ use mathlib.Core.Bool.{Bool, true, false, cond, Bool·beq}
 use mathlib.Core.List.{List}
 use mathlib.Core.Path.{_≡_, refl, sym, ap, _∙_}
 use lib.Dec.{eqb}
+use Rattle.sheet.specs.Format.{sameSign}
 use Rattle.sheet.specs.Conditions.{Term, same, apart, termOf}
 use Rattle.sheet.proofs.Scanning.{Goes}
 use Rattle.equality.specs.Meaning.{holds, meetsCondition}
@@ -19,8 +20,8 @@ pub taken-by-map : (lots : List ℕ) (tss : List (List Term)) {w : Taken} → lo
 taken-by-map lots tss e ds q = sym e ∙ ap (λ (l : List ℕ). lowestTaken (classOf l) 1 tss) q ∙ sym (taken-by-classes ds 1 tss)
 
 -- A term is true by an assignment exactly where "its numbers are equal" and "its sign is 1" are the same.
-pub term-flag : (f : ℕ → ℕ) (sign a b : ℕ) → holds f (termOf sign a b) ≡ Bool·beq (eqb (f a) (f b)) (eqb sign 1)
-term-flag f sign a b = go (eqb sign 1) (eqb (f a) (f b)) refl
+pub term-flag : (f : ℕ → ℕ) (sign a b : ℕ) → holds f (termOf sign a b) ≡ Bool·beq (eqb (f a) (f b)) (eqb sign sameSign)
+term-flag f sign a b = go (eqb sign sameSign) (eqb (f a) (f b)) refl
   where
     go : (p q : Bool) → eqb (f a) (f b) ≡ q → holds f (cond p (same a b) (apart a b)) ≡ Bool·beq (eqb (f a) (f b)) p
     go true true e = rw e

@@ -10,7 +10,7 @@ use borrow.Author.Tests.{eqb-true, eqb-false, eq-eqb, lt-ltb, le-ltb}
 use lib.Dec.{eqb, ltb}
 use lib.ListN.{length, getD, set, length-set, length-append}
 use lib.Seq.{getD-set-same, getD-set-other}
-use Rattle.sheet.specs.Format.{conditionCount, nextAt}
+use Rattle.sheet.specs.Format.{sameSign, conditionCount, nextAt}
 use Rattle.sheet.specs.Checks.{Accepted}
 use Rattle.sheet.specs.Conditions.{Term, same, apart, termOf, termAt, termsFrom, conditionAt, conditions}
 use Rattle.sheet.proofs.Conditions.{conditions-length}
@@ -66,9 +66,9 @@ module _ (cs s : List ℕ) where
       ∙ any-here (sharing cs) (l .passed) (termAt s at) (termsFrom s (nextAt s at)) e
 
 -- A true term whose lots share a class is a "same" term.
-pub sharing-flag : (cs : List ℕ) (sign a b : ℕ) → eqb (classOf cs a) (classOf cs b) ≡ true → Bool·beq (eqb (classOf cs a) (classOf cs b)) (eqb sign 1) ≡ true
+pub sharing-flag : (cs : List ℕ) (sign a b : ℕ) → eqb (classOf cs a) (classOf cs b) ≡ true → Bool·beq (eqb (classOf cs a) (classOf cs b)) (eqb sign sameSign) ≡ true
     → sharing cs (termOf sign a b) ≡ true
-sharing-flag cs sign a b shared flag = go (eqb sign 1) (rw shared at flag)
+sharing-flag cs sign a b shared flag = go (eqb sign sameSign) (rw shared at flag)
   where
     go : (p : Bool) → Bool·beq true p ≡ true → sharing cs (cond p (same a b) (apart a b)) ≡ true
     go true e = shared

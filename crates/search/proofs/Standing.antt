@@ -25,7 +25,7 @@ use Rattle.node.specs.declared.Place.the-variants.{Scan, Within, Nowhere}
 use Rattle.node.specs.Place.{ResumesWithin, Resumes, PlaceWithin}
 use Rattle.node.specs.Settled.{Settled, Later}
 use Rattle.node.proofs.Settling.{taken-number, same-settled, same-later, later-through}
-use Rattle.search.specs.Limits.{pairsRoom, mostLevel}
+use Rattle.search.specs.Limits.{pairsRoom}
 use Rattle.search.specs.Visited.{Standing, LevelWithin, Untouched}
 use Rattle.classes.specs.Maps.{ClassesWithin}
 use Rattle.search.proofs.Limits.{opens-within, pairs-enough, pairs-count, levels-enough, level-fits}
@@ -50,8 +50,8 @@ abbrev shutBy : List ℕ → List ℕ → ℕ → ℕ → ℕ → Bool
 shutBy lots pairs count a b =
     eqb (classOf lots a) (classOf lots b) || marked lots (setApart pairs count) (classOf lots a) (classOf lots b)
 
-pub openCount : List ℕ → List ℕ → List ℕ → ℕ → ℕ
-openCount s lots pairs count = openInAll (shutBy lots pairs count) (conditions s)
+pub openByMap : List ℕ → List ℕ → List ℕ → ℕ → ℕ
+openByMap s lots pairs count = openInAll (shutBy lots pairs count) (conditions s)
 
 module _ (shut : ℕ → ℕ → Bool) (ds : Decisions) (agrees : (a b : ℕ) → shut a b ≡ closed ds a b) where
   open-agrees : (ts : List Term) → openTerms shut ts ≡ opens ds ts
@@ -123,8 +123,8 @@ start-standing s ok map pairs new len =
 
 module _ {s : List ℕ} {map : Classes} {pairs : List ℕ} {count : ℕ} {ds : Decisions} (st : Standing s map pairs count ds) where
   -- The map and the pairs count the open "same" terms of the path.
-  pub counted : openCount s (map .lots) pairs count ≡ allOpens ds (conditions s)
-  unfolding openCount
+  pub counted : openByMap s (map .lots) pairs count ≡ allOpens ds (conditions s)
+  unfolding openByMap
   counted =
       all-agrees (shutBy (map .lots) pairs count) ds
       (λ a b. ap₂ _||_ (ap₂ eqb (smallest-says (st .represents) a) (smallest-says (st .represents) b)) (marked-says (st .represents) a b))
@@ -191,11 +191,11 @@ module _ {s : List ℕ} {map : Classes} {pairs : List ℕ} {count : ℕ} {ds : D
 module _ {s : List ℕ} {map : Classes} {pairs : List ℕ} {count : ℕ} {ds : Decisions} (st : Standing s map pairs count ds)
     (ok : Accepted s) (a b : ℕ) (e : node ds (conditions s) ≡ split a b) where
   pub same-less : (map′ : Classes) → map′ .lots ≡ merged (classOf (map .lots) a) (classOf (map .lots) b) (map .lots)
-      → openCount s (map′ .lots) pairs count < openCount s (map .lots) pairs count
+      → openByMap s (map′ .lots) pairs count < openByMap s (map .lots) pairs count
   same-less map′ joined = omega (arith, counted (same-standing st ok a b e map′ joined), counted st, same-falls st ok a b e)
 
   pub apart-less : (pairs′ pairs″ : List ℕ) → length pairs′ ≡ length pairs → Untouched pairs pairs′ count → pairs″ ≡ withPair pairs′ count a b
-      → openCount s (map .lots) pairs″ (count + 1) < openCount s (map .lots) pairs count
+      → openByMap s (map .lots) pairs″ (count + 1) < openByMap s (map .lots) pairs count
   apart-less pairs′ pairs″ len untouched set =
       omega (arith, counted (apart-standing st ok a b e pairs′ pairs″ len untouched set), counted st, apart-falls st ok a b e)
 

@@ -9,7 +9,7 @@ use lib.Seq.{sets}
 use Rattle.sheet.specs.Format.{mostLots}
 use Rattle.sheet.specs.Conditions.{conditions}
 use Rattle.buffers.specs.Lists.{All}
-use Rattle.equality.specs.Node.{Decisions, classOf, split, node}
+use Rattle.equality.specs.Node.{Decisions, split, node}
 use Rattle.equality.specs.Search.{nodeRule, Tree, isMet, nodeCount, metDecisions, groupingBytes}
 use Rattle.equality.specs.Opens.{Small, allOpens}
 use Rattle.equality.specs.Visits.{Visits}

@@ -108,7 +108,7 @@ fn visit(
 ) -> Visited
     requires { ⌜ Searchable (now sheet) (at .m) (now grouping) × Visitable (now sheet) map from count (at .level) (now pairs) (now levels) ⌝ }
     ensures visited { λ r. ⌜ VisitExplores (now (sheet .entry)) map from count (now (pairs .entry)) (at .before) (now (store .entry)) (now (store .exit)) (now (grouping .entry)) (now (grouping .exit)) r ⌝ }
-    ensures kept { λ r. ⌜ Untouched (now (pairs .entry)) (now (pairs .exit)) count × Later (now (levels .entry)) (now (levels .exit)) (at .level) ⌝ }
+    ensures untouched { λ r. ⌜ Untouched (now (pairs .entry)) (now (pairs .exit)) count × Later (now (levels .entry)) (now (levels .exit)) (at .level) ⌝ }
 {
     let before = at.before;
     if store::capacity_of(store) <= (before as usize) {
@@ -146,7 +146,7 @@ fn branches(
 ) -> Visited
     requires { ⌜ Searchable (now sheet) (at .m) (now grouping) × (at .before < capacity (now store)) × Splittable (now sheet) map on count (at .level) (now pairs) (now levels) ⌝ }
     ensures visited { λ r. ⌜ SplitExplores (now (sheet .entry)) map on count (now (pairs .entry)) (at .before) (now (store .entry)) (now (store .exit)) (now (grouping .entry)) (now (grouping .exit)) r ⌝ }
-    ensures kept { λ r. ⌜ Untouched (now (pairs .entry)) (now (pairs .exit)) count × Later (now (levels .entry)) (now (levels .exit)) (at .level) ⌝ }
+    ensures untouched { λ r. ⌜ Untouched (now (pairs .entry)) (now (pairs .exit)) count × Later (now (levels .entry)) (now (levels .exit)) (at .level) ⌝ }
 {
     let here = NodeNumber(at.before + 1);
     let a = on.a;

@@ -10,7 +10,7 @@ use Rattle.buffers.proofs.Bytes.{low-high, byte-shift, number-shift}
 use Rattle.sheet.specs.Conditions.{countUp}
 use Rattle.buffers.specs.Lists.{All}
 use Rattle.sheet.proofs.Ranges.{length-along, getD-along}
-use Rattle.store.specs.Records.{NodeRecord, splitRecord, groundRecord, metRecord, noRecord, recordLength, encode, ofKind, decode, recordAt, recordsOf, encodeAll, Fits}
+use Rattle.store.specs.Records.{nextPlace, NodeRecord, splitRecord, groundRecord, metRecord, noRecord, recordLength, encode, ofKind, decode, recordAt, recordsOf, encodeAll, Fits}
 
 -- ---- lengths
 
@@ -40,7 +40,7 @@ unfolding decode encode twoBytes number ofKind
 decode-encode (splitRecord a b next) rest h = simp (low-high a (h .0), low-high b (h .1), low-high next (omega (arith, h .2)))
 decode-encode (groundRecord c) rest h = simp (low-high c h)
 decode-encode metRecord rest h = refl
-decode-encode noRecord rest h = absurd h
+decode-encode noRecord rest h = refl
 
 -- ---- all records
 
@@ -49,7 +49,7 @@ module _ (p q : List ℕ) where
   pub decode-shift : (i : ℕ) → decode (p ++ q) (length p + i) ≡ decode q i
   unfolding decode
   decode-shift i =
-      rw (getD-append-add p q i 0, byte-shift p q i 1, number-shift p q i 2, number-shift p q i 4, number-shift p q i 6)
+      rw (getD-append-add p q i 0, byte-shift p q i 1, number-shift p q i 2, number-shift p q i 4, number-shift p q i nextPlace)
 
 -- The record at a place, where the records' bytes come first.
 pub decode-at : (rs : List NodeRecord) → All Fits rs → (rest : List ℕ) (i : ℕ) → i < length rs

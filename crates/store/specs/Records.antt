@@ -46,12 +46,12 @@ encode (groundRecord c) = fields 2 c 0 0
 encode metRecord = fields 3 0 0 0
 encode noRecord = fields 0 0 0 0
 
--- The numbers of a record have their bytes, and it is one of the three kinds.
+-- The numbers of a record have their bytes.
 abbrev pub Fits : NodeRecord → Type 0
 Fits (splitRecord a b next) = TwoBytes a × TwoBytes b × (next ≤ mostNext)
 Fits (groundRecord c) = TwoBytes c
 Fits metRecord = Unit {0}
-Fits noRecord = ⊥
+Fits noRecord = Unit {0}
 
 -- The record of these fields, where those that have to be 0 are.
 abbrev pub recordIf : Bool → NodeRecord → NodeRecord

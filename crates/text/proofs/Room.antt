@@ -46,7 +46,7 @@ recordLine-most (splitRecord a b next) h =
     omega (arith, line-length splitWord (decimal a ∷ decimal b ∷ decimal next ∷ []), five-digits a (omega (arith, h .0)), five-digits b (omega (arith, h .1)), five-digits next (omega (arith, h .2)))
 recordLine-most (groundRecord c) h = omega (arith, line-length groundWord (decimal c ∷ []), five-digits c (omega (arith, h)))
 recordLine-most metRecord h = omega arith
-recordLine-most noRecord h = absurd h
+recordLine-most noRecord h = omega arith
 
 pub recordLines-most : (rs : List NodeRecord) → All Fits rs → length (recordLines rs) ≤ 24 * length rs
 unfolding recordLines

@@ -12,7 +12,7 @@ use lib.ListN.{length}
 use Rattle.sheet.specs.declared.Term.{Term}
 use Rattle.sheet.specs.Checks.{Accepted}
 use Rattle.sheet.specs.Conditions.{termAt, recordsFrom, termsFrom, conditionAt, conditions}
-use Rattle.sheet.specs.Format.{mostLots, lotCount, conditionCount, recordCount, headAt, signAt, firstLotAt, secondLotAt}
+use Rattle.sheet.specs.Format.{sameSign, mostLots, lotCount, conditionCount, recordCount, headAt, signAt, firstLotAt, secondLotAt}
 use Rattle.sheet.proofs.Accepted.{SoundRecord, sound, has-record}
 use Rattle.sheet.proofs.ChainEnds.{rest-shorter}
 use Rattle.equality.specs.Node.{Decisions, classes, classOf, takes, taken}
@@ -207,13 +207,13 @@ array-read-shared-2 c =
 -- The test on a term is whether the classes make it true.
 flag : (c : Read)
     → holds (classOf (lots (turn (c .before)))) (termAt (bytes (turn (c .before))) (place (c .before)))
-    ≡ Bool·beq (eqb (classOf (lots (turn (c .before))) (c .term-at .result .a .0)) (classOf (lots (turn (c .before))) (c .term-at .result .b .0))) (eqb (c .term-at .result .sign) 1)
+    ≡ Bool·beq (eqb (classOf (lots (turn (c .before))) (c .term-at .result .a .0)) (classOf (lots (turn (c .before))) (c .term-at .result .b .0))) (eqb (c .term-at .result .sign) sameSign)
 flag c =
     let f = classOf (lots (turn (c .before))) in
     let s = bytes (turn (c .before)) in
     let r = place (c .before) in
     term-flag f (signAt s r) (firstLotAt s r) (secondLotAt s r)
-    ∙ ap (λ (t : Term). Bool·beq (eqb (f (t .a .0)) (f (t .b .0))) (eqb (t .sign) 1)) (sym (c .term-at .ensures))
+    ∙ ap (λ (t : Term). Bool·beq (eqb (f (t .a .0)) (f (t .b .0))) (eqb (t .sign) sameSign)) (sym (c .term-at .ensures))
 
 -- ---- a true term
 
@@ -240,7 +240,7 @@ settled-by c =
     ∙ found-sharing cs s (holds (classOf cs)) (accepted (turn d)) (headed d .head-at .result .0) r (walked d) (record-number d)
     (sharing-flag cs (signAt s r) (firstLotAt s r) (secondLotAt s r)
     (ap (λ (t : Term). eqb (classOf cs (t .a .0)) (classOf cs (t .b .0))) (sym (term .term-at .ensures)) ∙ c .if5 .taken)
-    (ap (λ (t : Term). Bool·beq (eqb (classOf cs (t .a .0)) (classOf cs (t .b .0))) (eqb (t .sign) 1)) (sym (term .term-at .ensures)) ∙ c .before .if4 .taken))
+    (ap (λ (t : Term). Bool·beq (eqb (classOf cs (t .a .0)) (classOf cs (t .b .0))) (eqb (t .sign) sameSign)) (sym (term .term-at .ensures)) ∙ c .before .if4 .taken))
 
 mul-levels : tie.Need-mul-levels Inv-terms μ-terms Inv-conditions μ-conditions
 mul-levels c =

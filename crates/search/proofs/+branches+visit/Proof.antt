@@ -33,7 +33,7 @@ use Rattle.search.proofs.Visited as ends
 use Rattle.search.proofs.Exploring.{none-explored, met-explored, ground-explored}
 use Rattle.search.proofs.Splitting.{split-ended, split-over, split-apart}
 use Rattle.search.proofs.Room.{has-place, number-fits}
-use Rattle.search.proofs.Standing.{openCount, place-within, split-number, under-settled, under-later, same-level, apart-level, level-room, count-room, pairs-within, entries-within, split-small, same-standing, same-less, pair-room, apart-standing, apart-less, untouched-through}
+use Rattle.search.proofs.Standing.{openByMap, place-within, split-number, under-settled, under-later, same-level, apart-level, level-room, count-room, pairs-within, entries-within, split-small, same-standing, same-less, pair-room, apart-standing, apart-less, untouched-through}
 use borrow.Fn.Kinds.{In}
 use borrow.Fn.PlainCycle.{Measures, is, falls, and}
 use Rattle.search.proofs.branches.Reads as branches
@@ -59,10 +59,10 @@ use Rattle.search.proofs.+branches+visit.{statement}
 use Rattle.search.proofs.+branches+visit.Tie.{close}
 
 abbrev μ-branches : Measures 5 branches-kinds.ps ℕ
-μ-branches κs a = 2 * openCount (a .0 .now) (a .1 .0 .lots) (a .1 .1 .1 .1 .1 .0 .now) (a .1 .1 .1 .0)
+μ-branches κs a = 2 * openByMap (a .0 .now) (a .1 .0 .lots) (a .1 .1 .1 .1 .1 .0 .now) (a .1 .1 .1 .0)
 
 abbrev μ-visit : Measures 5 visit-kinds.ps ℕ
-μ-visit κs a = 2 * openCount (a .0 .now) (a .1 .0 .lots) (a .1 .1 .1 .1 .1 .0 .now) (a .1 .1 .1 .0) + 1
+μ-visit κs a = 2 * openByMap (a .0 .now) (a .1 .0 .lots) (a .1 .1 .1 .1 .1 .0 .now) (a .1 .1 .1 .0) + 1
 
 abbrev branches-at : ℕ → In 5 branches-kinds.ps
 branches-at t = and 5 branches-kinds.ps (is 5 branches-kinds.ps μ-branches t) branches.Pre
@@ -243,11 +243,11 @@ module _ (t : ℕ) where
   abbrev levels₂ : Same → List ℕ
   levels₂ c = c .visit .last .1 .1 .1 .1 .1 .1 .1 .1 .0
 
-  abbrev pairs-kept : (c : Same) → length (pairs₂ c) ≡ length (same-begun c .args .pairs .now)
-  pairs-kept c = c .visit .kept .1 .1 .1 .1 .1 .0
+  abbrev pairs-sized : (c : Same) → length (pairs₂ c) ≡ length (same-begun c .args .pairs .now)
+  pairs-sized c = c .visit .kept .1 .1 .1 .1 .1 .0
 
-  abbrev grouping-kept : (c : Same) → length (grouping₂ c) ≡ length (same-begun c .args .grouping .now)
-  grouping-kept c = c .visit .kept .1 .1 .1 .1 .1 .1 .0
+  abbrev grouping-sized : (c : Same) → length (grouping₂ c) ≡ length (same-begun c .args .grouping .now)
+  grouping-sized c = c .visit .kept .1 .1 .1 .1 .1 .1 .0
 
   -- ---- branches: what is known after the visit of the same branch
 
@@ -292,7 +292,7 @@ module _ (t : ℕ) where
       (apart (lot-a (same-begun (apart-same c))) (lot-b (same-begun (apart-same c))) ∷ ds)
   branches-apart c ds at =
       let under = apart-same c in
-      apart-standing (at .0) (accepted (same-begun under)) _ _ (at .1) (pairs₂ under) (c .set-apart .last .0) (pairs-kept under) (under .visit .ensures .1 .0) (c .set-apart .ensures)
+      apart-standing (at .0) (accepted (same-begun under)) _ _ (at .1) (pairs₂ under) (c .set-apart .last .0) (pairs-sized under) (under .visit .ensures .1 .0) (c .set-apart .ensures)
 
   -- and the apart branch goes on where the split says.
   branches-resumes : (c : Turned) (ds : Decisions) → SplitLeaves (bytes (turned-begun c)) (turned-begun c .args .on) ds
@@ -435,7 +435,7 @@ module _ (t : ℕ) where
       let start = same-begun under in
       let path = able start in
       let small = split-small (path .standing) (accepted start) _ _ (path .splits) in
-      (omega (arith, pair-room (path .standing) (accepted start) _ _ (path .splits), pairs-kept under), small .0, small .1)
+      (omega (arith, pair-room (path .standing) (accepted start) _ _ (path .splits), pairs-sized under), small .0, small .1)
 
   branches-clear-above-requires : branches-lts.Need-clear-above-requires (branches-claims t) (branches-at t) branches.Post
   branches-clear-above-requires c κs = search needs
@@ -464,11 +464,11 @@ module _ (t : ℕ) where
         omega (
           arith,
           start .pre .0,
-          apart-less (path .standing) ok _ _ (path .splits) (pairs₂ under) (apart-set .set-apart .last .0) (pairs-kept under) (under .visit .ensures .1 .0) (apart-set .set-apart .ensures),
+          apart-less (path .standing) ok _ _ (path .splits) (pairs₂ under) (apart-set .set-apart .last .0) (pairs-sized under) (under .visit .ensures .1 .0) (apart-set .set-apart .ensures),
         ),
         (
           subst (λ (m : ℕ). Searchable (bytes start) m (grouping₂ under)) (sym (step .0))
-              (record { sheet = start .pre .1 .0 .sheet; lots = omega (arith, start .pre .1 .0 .lots, grouping-kept under) }),
+              (record { sheet = start .pre .1 .0 .sheet; lots = omega (arith, start .pre .1 .0 .lots, grouping-sized under) }),
           subst (λ (k : ℕ). Visitable (bytes start) (start .args .map) (turned .apart-place .result) (start .args .count + 1) k (apart-set .set-apart .last .0) (cleared .clear-above .last .0)) (sym (step .2))
               (record {
                 settled =
@@ -491,10 +491,10 @@ module _ (t : ℕ) where
   branches-same-length-9 : branches-lts.Need-same-length-9 (branches-claims t) (branches-at t) branches.Post
   branches-same-length-9 c =
       let done = done-of c in
-      done .visit2 .kept .1 .1 .1 .1 .1 .0 ∙ done-apart done .set-apart .kept .0 ∙ pairs-kept (apart-same (done-apart done))
+      done .visit2 .kept .1 .1 .1 .1 .1 .0 ∙ done-apart done .set-apart .kept .0 ∙ pairs-sized (apart-same (done-apart done))
 
   branches-same-length-10 : branches-lts.Need-same-length-10 (branches-claims t) (branches-at t) branches.Post
-  branches-same-length-10 c = let done = done-of c in done .visit2 .kept .1 .1 .1 .1 .1 .1 .0 ∙ grouping-kept (apart-same (done-apart done))
+  branches-same-length-10 c = let done = done-of c in done .visit2 .kept .1 .1 .1 .1 .1 .1 .0 ∙ grouping-sized (apart-same (done-apart done))
 
   branches-same-length-11 : branches-lts.Need-same-length-11 (branches-claims t) (branches-at t) branches.Post
   branches-same-length-11 c =

@@ -7,6 +7,7 @@ use native.Mathlib.Omega.{arith}
 use borrow.Author.Count.{below-more}
 use lib.ListN.{length, getD, length-set, take, drop, length-take, length-drop}
 use lib.Seq.{ext-getD, getD-set-same, getD-set-other, getD-take, getD-drop}
+use Rattle.classes.specs.Maps.{entries}
 use Rattle.search.proofs.write_grouping.Statement.{statement}
 use Rattle.search.proofs.write_grouping.Tie as tie
 
@@ -61,7 +62,7 @@ returns c =
     let h = c .before in
     let lots = h .before .before .args .map .lots in
     let n = length (h .before .before .args .grouping .now) in
-    let len : length lots ≡ 129 = search needs in
+    let len : length lots ≡ entries = search needs in
     let size : length (take n (drop 1 lots)) ≡ n = simp (length-take, length-drop) (omega arith) in
     ext-getD 0 (h .loop .grouping) (take n (drop 1 lots)) (h .loop .inv .1 ∙ sym size)
     (λ k lt. h .loop .inv .2 k (omega arith) ∙ sym (getD-take n (drop 1 lots) k 0 (omega (arith, h .loop .inv .1)) ∙ getD-drop 1 lots k 0))
