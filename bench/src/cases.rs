@@ -158,3 +158,20 @@ pub fn sizes() -> Vec<(usize, usize, Case)> {
     };
     [125, 250, 500].into_iter().flat_map(|terms| [125, 250, 500].map(|pairs| (terms, pairs))).map(one).collect()
 }
+
+#[cfg(test)]
+mod tests {
+    use super::*;
+    use std::collections::HashSet;
+
+    #[test]
+    fn sheets_are_within_the_format_and_have_names_of_their_own() {
+        let (mut keys, mut names) = (HashSet::new(), HashSet::new());
+        for case in all().into_iter().chain(sizes().into_iter().map(|(_, _, case)| case)) {
+            let (lots, conditions, terms) = (case.sheet.lots, case.sheet.conditions.len(), case.sheet.terms());
+            assert!(lots <= 128 && conditions <= 256 && terms <= 1024, "{}: {lots} lots, {conditions} conditions, {terms} terms", case.key);
+            assert!((case.nodes > MOST) == (case.answer == Answer::Full), "{}: {} nodes", case.key, case.nodes);
+            assert!(keys.insert(case.key) && names.insert(case.name));
+        }
+    }
+}

@@ -133,7 +133,7 @@ fn ground_jobs(wanted: &dyn Fn(&str) -> bool) -> Vec<Job> {
         jobs.push(check_job("growing-500-750".into(), name, "slow list", families::deep(500), |_| lists::growing(500, 250)));
     }
     for (joins, word, what) in [(Joins::Free, "classes", "other classes"), (Joins::Marked, "moved", "marks moved")] {
-        for (terms, pairs) in [(250, 250), (250, 1000), (500, 500), (1000, 1000)] {
+        for (terms, pairs) in [(250, 250), (500, 500), (1000, 1000)] {
             let key = format!("{word}-{terms}-{pairs}");
             if wanted(&key) {
                 let name = format!("grounds of {terms} terms, {pairs} pairs, {what}");
