@@ -1,6 +1,6 @@
 #!/bin/sh
 # Measures the proved services: builds them, compares every contender, times, counts instructions, and writes data, plots and the tables of
-# docs/PERFORMANCE.md. It takes about ten minutes; `bench/run.sh quick` takes about six, and its times are worth less.
+# docs/PERFORMANCE.md. Before the slow sheets joined it took ten minutes, and `bench/run.sh quick`, whose times are worth less, six.
 set -eu
 cd "$(dirname "$0")/.."
 cargo build --release -p measure
