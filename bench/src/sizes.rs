@@ -4,7 +4,7 @@ use crate::axis::grouped;
 use crate::jobs::{self, Job};
 use crate::{compare, instructions, tables};
 
-const HEADER: &str = "Terms false\tPairs apart\tBytes\tNodes\tSearch: product\tplain\tplain, kept\ttuned\tCheck: product\tplain\ttuned\n";
+const HEADER: &str = "Terms false\tPairs apart\tBytes\tNodes\tSearch: product\tplain\tplain, undone\ttuned\tCheck: product\tplain\ttuned\n";
 
 /// Instructions a node or a record of the contenders that don't check the sheet, and of the product; nothing where valgrind isn't there.
 fn costs(job: &Job) -> Option<Vec<String>> {

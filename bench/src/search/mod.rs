@@ -45,7 +45,7 @@ fn tuned_checked(sheet: &[u8], grouping: &mut [u8], store: &mut [u8]) -> Numbers
 pub const ALL: [(&str, Search); 5] = [
     ("product", lihumbay::raw::search),
     ("plain", plain::search),
-    ("plain, kept", plain::search_kept),
+    ("plain, undone", plain::search_undone),
     ("tuned", tuned::search),
     ("tuned, checked", tuned_checked),
 ];

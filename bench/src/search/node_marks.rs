@@ -57,16 +57,16 @@ impl NodeMarks for Stamped {
 
 /// A table that is kept along the path: a pair set apart marks its classes, a join gives the smaller class the marks of the other, and both are undone in place. A
 /// node costs nothing for its marks.
-pub struct Kept {
+pub struct Undone {
     lots: u8,
     marks: Marks,
     /// The marks that joins added, in order.
     added: Vec<(u8, u8)>,
 }
 
-impl NodeMarks for Kept {
-    fn new(lots: usize) -> Kept {
-        Kept { lots: lots as u8, marks: Marks::new(), added: Vec::new() }
+impl NodeMarks for Undone {
+    fn new(lots: usize) -> Undone {
+        Undone { lots: lots as u8, marks: Marks::new(), added: Vec::new() }
     }
 
     #[inline]

@@ -1,7 +1,7 @@
 //! The search of document 01 word for word: each node looks at every condition from the first on, and gives each term its value by the node's classes and marks.
 //! It doesn't check the sheet. There are two, which differ in their marks alone.
 use crate::records;
-use crate::search::node_marks::{Kept, NodeMarks, Stamped};
+use crate::search::node_marks::{NodeMarks, Stamped, Undone};
 use crate::search::{End, answer};
 use crate::terms::{self, Term};
 use lihumbay::raw::Numbers;
@@ -152,6 +152,6 @@ pub fn search(sheet: &[u8], grouping: &mut [u8], store: &mut [u8]) -> Numbers {
 }
 
 /// With marks that are kept along the path.
-pub fn search_kept(sheet: &[u8], grouping: &mut [u8], store: &mut [u8]) -> Numbers {
-    search_by::<Kept>(sheet, grouping, store)
+pub fn search_undone(sheet: &[u8], grouping: &mut [u8], store: &mut [u8]) -> Numbers {
+    search_by::<Undone>(sheet, grouping, store)
 }
