@@ -1,1 +1,2 @@
+mod Numbered
 pub mod Promised

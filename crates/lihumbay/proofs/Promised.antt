@@ -20,7 +20,7 @@ use Rattle.store.specs.Records.{recordLength}
 use Rattle.search.specs.Promises.{FullExactly, FullPlace, MetExactly, MetGrouping, CannotExactly, CannotRefutes, CountBounded}
 use Rattle.search.proofs.Promised.{answer-passing}
 use Rattle.refutation.specs.Refutation.{listVerdict, checkAnswer}
-use Rattle.refutation.proofs.Numbered.{list-numbered}
+use Rattle.lihumbay.proofs.Numbered.{list-numbered}
 use Rattle.checker.specs.declared.CheckAnswer.{CheckAnswer}
 use Rattle.checker.specs.declared.CheckAnswer.the-variants as check
 use Rattle.checker.specs.Answers.{checkedAnswer, PassedExactly, PassedMeans}
