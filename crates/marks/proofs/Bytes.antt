@@ -1,6 +1,6 @@
 -- The table within its bytes: with a bit set, with all bits zeroed, and the bytes around it.
-use Prim.Native.Nat.{ℕ, _+_, _*_, _-_, _/_, _%_, _^_, _≤_}
-use mathlib.Core.Bool.{Bool, true, false, _&&_, _||_}
+use Prim.Native.Nat.{ℕ, _+_, _*_, _-_, _/_, _%_, _^_, _≤_, _<_}
+use mathlib.Core.Bool.{Bool, true, false, _&&_, _||_, false≢true}
 use mathlib.Core.List.{List, _++_}
 use mathlib.Core.Path.{_≡_, refl, sym, ap, _∙_}
 use native.Mathlib.Nat.{zero-div}
@@ -29,23 +29,23 @@ outside-then p q =
 
 -- ---- one bit
 
-module _ (at x y u v : ℕ) (hx : x ≤ mostLots) (hy : y ≤ mostLots) (hu : u ≤ mostLots) (hv : v ≤ mostLots) where
+module _ (at x y u v : ℕ) (hx : x < y) (hy : y ≤ mostLots) (hu : u < v) (hv : v ≤ mostLots) where
   -- Two bits of the table are one only if both classes are the same,
-  pub same-row : place at u v ≡ place at x y → u ≡ x
+  pub same-row : place at u v ≡ place at x y → v ≡ y
   same-row e = omega arith
 
-  pub same-bit : place at u v ≡ place at x y → v % 8 ≡ y % 8 → v ≡ y
+  pub same-bit : place at u v ≡ place at x y → u % 8 ≡ x % 8 → u ≡ x
   same-bit e f = omega arith
 
   -- and so says the test on both classes.
-  one-byte : place at u v ≡ place at x y → eqb (v % 8) (y % 8) ≡ (eqb u x && eqb v y)
-  one-byte e = go (eqb (v % 8) (y % 8)) refl
+  one-byte : place at u v ≡ place at x y → eqb (u % 8) (x % 8) ≡ (eqb u x && eqb v y)
+  one-byte e = go (eqb (u % 8) (x % 8)) refl
     where
-      go : (p : Bool) → eqb (v % 8) (y % 8) ≡ p → p ≡ (eqb u x && eqb v y)
-      go true f = sym (rw (eq-eqb u x (same-row e), eq-eqb v y (same-bit e (eqb-true (v % 8) (y % 8) f))))
+      go : (p : Bool) → eqb (u % 8) (x % 8) ≡ p → p ≡ (eqb u x && eqb v y)
+      go true f = sym (rw (eq-eqb v y (same-row e), eq-eqb u x (same-bit e (eqb-true (u % 8) (x % 8) f))))
       go false f =
-          let other : eqb v y ≡ false = ne-eqb v y (λ g. eqb-false (v % 8) (y % 8) f (omega arith)) in
-          sym (rw (eq-eqb u x (same-row e), other))
+          let other : eqb u x ≡ false = ne-eqb u x (λ g. eqb-false (u % 8) (x % 8) f (omega arith)) in
+          sym (rw other)
 
   two-bytes : (place at u v ≡ place at x y → ⊥) → (eqb u x && eqb v y) ≡ false
   two-bytes n = go (eqb u x) (eqb v y) refl refl
@@ -63,15 +63,15 @@ module _ (at x y u v : ℕ) (hx : x ≤ mostLots) (hy : y ≤ mostLots) (hu : u 
       go true f =
           let here : place at u v ≡ place at x y = eqb-true (place at u v) (place at x y) f in
           rw (← here)
-          (ap (λ (b : ℕ). bitOf b (y % 8)) (getD-set-same l (place at u v) (bitOr (getD l (place at u v) 0) (2 ^ (v % 8))) 0 (omega arith))
-          ∙ or-bit (getD l (place at u v) 0) (v % 8) (y % 8)
-          ∙ ap (λ (p : Bool). p || bitOf (getD l (place at u v) 0) (y % 8)) (one-byte here))
+          (ap (λ (b : ℕ). bitOf b (x % 8)) (getD-set-same l (place at u v) (bitOr (getD l (place at u v) 0) (2 ^ (u % 8))) 0 (omega arith))
+          ∙ or-bit (getD l (place at u v) 0) (u % 8) (x % 8)
+          ∙ ap (λ (p : Bool). p || bitOf (getD l (place at u v) 0) (x % 8)) (one-byte here))
       go false f =
           let other = eqb-false (place at u v) (place at x y) f in
-          ap (λ (b : ℕ). bitOf b (y % 8)) (getD-set-other l (place at u v) (place at x y) (bitOr (getD l (place at u v) 0) (2 ^ (v % 8))) 0 (λ e. other (sym e)))
+          ap (λ (b : ℕ). bitOf b (x % 8)) (getD-set-other l (place at u v) (place at x y) (bitOr (getD l (place at u v) 0) (2 ^ (u % 8))) 0 (λ e. other (sym e)))
           ∙ sym (rw (two-bytes other))
 
-pub bit-outside : (l : List ℕ) (at x y : ℕ) → x ≤ mostLots → y ≤ mostLots → Outside l (withBit l at x y) at
+pub bit-outside : (l : List ℕ) (at x y : ℕ) → x < y → y ≤ mostLots → Outside l (withBit l at x y) at
 bit-outside l at x y hx hy =
     record {
       size = simp length-set;
@@ -79,31 +79,73 @@ bit-outside l at x y hx hy =
       back = λ i h. getD-set-other l (place at x y) i _ 0 (λ e. omega arith);
     }
 
--- ---- both bits of two classes
+-- ---- two classes, in whichever order
 
-either : (p q r s b : Bool) → (s && r || (p && q || b)) ≡ ((p && q || r && s) || b)
-either true true true true b = refl
-either true true true false b = refl
-either true true false true b = refl
-either true true false false b = refl
-either true false true true b = refl
-either true false true false b = refl
-either true false false true b = refl
-either true false false false b = refl
-either false q true true b = refl
-either false q true false b = refl
-either false q false true b = refl
-either false q false false b = refl
+-- Of two classes the one is not the other: a test on both, in the wrong order, fails.
+crossed : (x y u v : ℕ) → x < y → u < v → (eqb x v && eqb y u) ≡ false
+crossed x y u v h k = go (eqb x v) (eqb y u) refl refl
+  where
+    go : (p q : Bool) → eqb x v ≡ p → eqb y u ≡ q → (p && q) ≡ false
+    go true true e f = absurd (omega (arith, eqb-true x v e, eqb-true y u f))
+    go true false e f = refl
+    go false q e f = refl
 
-pub both-bits : (l : List ℕ) (at x y : ℕ) → Room l at → x ≤ mostLots → y ≤ mostLots → MarkedToo l (withBit (withBit l at x y) at y x) at x y
-both-bits l at x y room hx hy =
+-- The smaller stands first,
+pub marked-first : (l : List ℕ) (at x y : ℕ) → Room l at → x < y → y ≤ mostLots → MarkedToo l (withBit l at x y) at x y
+marked-first l at x y room hx hy =
+    record {
+      bits = λ u v hu hv. bit-set at u v x y hu hv hx hy l room ∙ sym (rw (crossed x y u v hx hu) (beside (eqb x u && eqb y v) (bitAt l at u v)));
+      outside = bit-outside l at x y hx hy;
+    }
+  where
+    beside : (p b : Bool) → ((p || false) || b) ≡ (p || b)
+    beside true b = refl
+    beside false b = refl
+
+-- or the larger,
+pub marked-second : (l : List ℕ) (at x y : ℕ) → Room l at → y < x → x ≤ mostLots → MarkedToo l (withBit l at y x) at x y
+marked-second l at x y room hy hx =
     record {
       bits = λ u v hu hv.
-          bit-set at u v y x hu hv hy hx (withBit l at x y) (simp length-set room)
-          ∙ ap (λ (b : Bool). eqb y u && eqb x v || b) (bit-set at u v x y hu hv hx hy l room)
-          ∙ either (eqb x u) (eqb y v) (eqb x v) (eqb y u) (bitAt l at u v);
-      outside = outside-then (bit-outside l at x y hx hy) (bit-outside (withBit l at x y) at y x hy hx);
+          bit-set at u v y x hu hv hy hx l room
+          ∙ turned (eqb y u) (eqb x v) (eqb x u) (eqb y v) (bitAt l at u v) (crossed y x u v hy hu);
+      outside = bit-outside l at y x hy hx;
     }
+  where
+    turned : (p q r s b : Bool) → (s && r) ≡ false → (p && q || b) ≡ ((r && s || q && p) || b)
+    turned p q true true b e = absurd (false≢true (sym e))
+    turned true true true false b e = refl
+    turned true false true false b e = refl
+    turned false true true false b e = refl
+    turned false false true false b e = refl
+    turned true true false s b e = refl
+    turned true false false s b e = refl
+    turned false true false s b e = refl
+    turned false false false s b e = refl
+
+-- or they are one, and nothing is marked.
+pub marked-itself : (l : List ℕ) (at x y : ℕ) → x ≡ y → MarkedToo l l at x y
+marked-itself l at x y e =
+    record {
+      bits = λ u v hu hv. sym (rw (other u v hu, other′ u v hu) refl);
+      outside = outside-none l at;
+    }
+  where
+    other : (u v : ℕ) → u < v → (eqb x u && eqb y v) ≡ false
+    other u v h = go (eqb x u) (eqb y v) refl refl
+      where
+        go : (p q : Bool) → eqb x u ≡ p → eqb y v ≡ q → (p && q) ≡ false
+        go true true f g = absurd (omega (arith, eqb-true x u f, eqb-true y v g))
+        go true false f g = refl
+        go false q f g = refl
+
+    other′ : (u v : ℕ) → u < v → (eqb x v && eqb y u) ≡ false
+    other′ u v h = go (eqb x v) (eqb y u) refl refl
+      where
+        go : (p q : Bool) → eqb x v ≡ p → eqb y u ≡ q → (p && q) ≡ false
+        go true true f g = absurd (omega (arith, eqb-true x v f, eqb-true y u g))
+        go true false f g = refl
+        go false q f g = refl
 
 -- ---- zeroed
 
@@ -138,14 +180,14 @@ module _ (l part : List ℕ) (at n : ℕ) (room : Room l at) (len : length part 
       }
 
   pub put-zeros : part ≡ replicate tableLength 0 → Unmarked (take at l ++ (part ++ drop n (drop at l))) at
-  put-zeros zeros = record { none = λ x y hx hy. ap (λ (b : ℕ). bitOf b (y % 8)) (zero-at x y hx hy) ∙ no-bit (y % 8) }
+  put-zeros zeros = record { none = λ x y hx hy. ap (λ (b : ℕ). bitOf b (x % 8)) (zero-at x y hx hy) ∙ no-bit (x % 8) }
     where
-      zero-at : (x y : ℕ) → x ≤ mostLots → y ≤ mostLots → getD (take at l ++ (part ++ drop n (drop at l))) (place at x y) 0 ≡ 0
+      zero-at : (x y : ℕ) → x < y → y ≤ mostLots → getD (take at l ++ (part ++ drop n (drop at l))) (place at x y) 0 ≡ 0
       zero-at x y hx hy =
-          let here : at + (rowLength * x + y / 8) ≡ place at x y = omega arith in
-          rw (← here) (past (take at l) (part ++ drop n (drop at l)) at (rowLength * x + y / 8) start-length)
-          ∙ List·getD-append part (drop n (drop at l)) 0 (rowLength * x + y / 8) (omega arith)
-          ∙ rw zeros (getD-replicate tableLength (rowLength * x + y / 8) 0 0 (omega arith))
+          let here : at + (rowLength * (y - 1) + x / 8) ≡ place at x y = omega arith in
+          rw (← here) (past (take at l) (part ++ drop n (drop at l)) at (rowLength * (y - 1) + x / 8) start-length)
+          ∙ List·getD-append part (drop n (drop at l)) 0 (rowLength * (y - 1) + x / 8) (omega arith)
+          ∙ rw zeros (getD-replicate tableLength (rowLength * (y - 1) + x / 8) 0 0 (omega arith))
 
       no-bit : (k : ℕ) → bitOf 0 k ≡ false
       no-bit k = rw (zero-div (2 ^ k))

@@ -1,11 +1,13 @@
 -- Laws of a table of marks, for whoever marks classes in it and asks.
 use Prim.Native.Nat.{ℕ, _*_, _+_, _≤_, _<_}
-use mathlib.Core.Bool.{Bool, true, false, _&&_, _||_}
+use mathlib.Core.Bool.{Bool, true, false, cond, _&&_, _||_}
 use mathlib.Core.List.{List, [], _∷_}
+use mathlib.Core.Logic.{_≢_}
 use mathlib.Core.Path.{_≡_, refl, sym, ap, _∙_}
 use native.Mathlib.Numerals.{add-one}
 use native.Mathlib.Omega.{arith}
-use lib.Dec.{eqb}
+use borrow.Author.Tests.{ltb-true, ltb-false}
+use lib.Dec.{eqb, ltb}
 use lib.ListN.{getD}
 use Rattle.sheet.specs.Format.{mostLots}
 use Rattle.sheet.specs.Conditions.{same, apart}
@@ -15,7 +17,7 @@ use Rattle.classes.specs.declared.Classes.{Classes}
 use Rattle.classes.specs.Maps.{ClassesWithin}
 use Rattle.classes.specs.Pairs.{setApart, PairsWithin, onlyApart, Represents}
 use Rattle.classes.proofs.Path.{marked-only, setApart-below, marked-says}
-use Rattle.marks.specs.Marks.{bitAt, Unmarked, Marks, Outside, MarkedToo}
+use Rattle.marks.specs.Marks.{bitAt, markAt, Unmarked, Marks, Outside, MarkedToo}
 
 -- ---- decision by decision
 
@@ -47,14 +49,22 @@ marks-only {cs = cs} ds m = record { says = λ x y hx hy. m .says x y hx hy ∙ 
 
 -- ---- what the table says
 
--- Two classes are marked in whichever order,
-pub marks-either-way : {l : List ℕ} {at : ℕ} {cs : List ℕ} {ds : Decisions} → Marks l at cs ds → (x y : ℕ) → x ≤ mostLots → y ≤ mostLots
-    → bitAt l at x y ≡ bitAt l at y x
-marks-either-way {cs = cs} {ds = ds} m x y hx hy = m .says x y hx hy ∙ marked-sym cs ds x y ∙ sym (m .says y x hy hx)
+-- Two classes are marked in whichever order they are asked for,
+pub marks-at : {l : List ℕ} {at : ℕ} {cs : List ℕ} {ds : Decisions} → Marks l at cs ds → (x y : ℕ) → x ≤ mostLots → y ≤ mostLots → x ≢ y
+    → markAt l at x y ≡ marked cs ds x y
+marks-at {l} {at} {cs} {ds} m x y hx hy n = go (ltb x y) refl
+  where
+    back : (q : Bool) → ltb y x ≡ q → y ≤ x → cond q (bitAt l at y x) false ≡ marked cs ds x y
+    back true f h = m .says y x (ltb-true y x f) hx ∙ marked-sym cs ds y x
+    back false f h = absurd (n (omega (arith, ltb-false y x f)))
+
+    go : (p : Bool) → ltb x y ≡ p → cond p (bitAt l at x y) (cond (ltb y x) (bitAt l at y x) false) ≡ marked cs ds x y
+    go true e = m .says x y (ltb-true x y e) hy
+    go false e = back (ltb y x) refl (ltb-false x y e)
 
 -- and marked once more they are as they were.
 pub marked-again : {before between after : List ℕ} {at x y : ℕ} → MarkedToo before between at x y → MarkedToo between after at x y
-    → (u v : ℕ) → u ≤ mostLots → v ≤ mostLots → bitAt after at u v ≡ bitAt between at u v
+    → (u v : ℕ) → u < v → v ≤ mostLots → bitAt after at u v ≡ bitAt between at u v
 marked-again {before} {at = at} {x = x} {y = y} s t u v hu hv =
     t .bits u v hu hv ∙ rw (s .bits u v hu hv) (twice (eqb x u && eqb y v || eqb x v && eqb y u) (bitAt before at u v))
   where
@@ -65,8 +75,9 @@ marked-again {before} {at = at} {x = x} {y = y} s t u v hu hv =
 -- The table of a path's pairs says whether the classes of two lots are marked apart.
 pub marks-say : {map : Classes} {bytes : List ℕ} {count : ℕ} {ds : Decisions} → Represents map bytes count ds → ClassesWithin (map .lots)
     → {l : List ℕ} {at : ℕ} → Marks l at (map .lots) (setApart bytes count)
-    → (a b : ℕ) → a ≤ mostLots → b ≤ mostLots → bitAt l at (classOf (map .lots) a) (classOf (map .lots) b) ≡ markedApart ds a b
-marks-say r within m a b ha hb = m .says _ _ (within a ha) (within b hb) ∙ marked-says r a b
+    → (a b : ℕ) → a ≤ mostLots → b ≤ mostLots → classOf (map .lots) a ≢ classOf (map .lots) b
+    → markAt l at (classOf (map .lots) a) (classOf (map .lots) b) ≡ markedApart ds a b
+marks-say r within m a b ha hb n = marks-at m _ _ (within a ha) (within b hb) n ∙ marked-says r a b
 
 -- ---- the pairs in front of it
 

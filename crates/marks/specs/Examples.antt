@@ -6,10 +6,10 @@ use mathlib.Core.Path.{_≡_, refl}
 use lib.ListN.{length, getD, replicate}
 use Rattle.sheet.specs.Conditions.{same, apart, countUp}
 use Rattle.equality.specs.Node.{Decisions, merged, classes, marked}
-use Rattle.marks.specs.Marks.{tableLength, bitOf, place, bitAt, withBit}
+use Rattle.marks.specs.Marks.{tableLength, bitOf, place, withBit, markAt}
 
--- The first bits of a row, the first of the next, and the last of all, whose byte is the table's last.
-pub places : place 0 0 7 ∷ place 0 0 8 ∷ place 0 0 128 ∷ place 0 1 0 ∷ (place 2048 128 128 + 1) ∷ [] ≡ 0 ∷ 1 ∷ 16 ∷ 17 ∷ (2048 + tableLength) ∷ []
+-- The first bits of the first row, and of the next; and the last of all, whose byte is the table's last.
+pub places : place 0 0 1 ∷ place 0 0 2 ∷ place 0 7 8 ∷ place 0 8 9 ∷ (place 2048 127 128 + 1) ∷ [] ≡ 0 ∷ 16 ∷ 112 ∷ 129 ∷ (2048 + tableLength) ∷ []
 places = refl
 
 -- The bits of a byte, the lowest first.
@@ -21,13 +21,13 @@ bits = refl
 abbrev pub decisions : Decisions
 decisions = apart 2 9 ∷ same 1 2 ∷ []
 
--- A table behind three other bytes, with the bits of that pair's classes set.
+-- A table behind three other bytes, with the bit of that pair's classes set.
 abbrev pub table : List ℕ
-table = withBit (withBit (replicate (3 + tableLength) 0) 3 1 9) 3 9 1
+table = withBit (replicate (3 + tableLength) 0) 3 1 9
 
 -- Classes 1 and 9 are marked, in both orders, and neither lot 2, which is no class, nor others; so says the definition of marks too.
 pub asked :
-    bitAt table 3 1 9 ∷ bitAt table 3 9 1 ∷ bitAt table 3 2 9 ∷ bitAt table 3 1 8 ∷ bitAt table 3 1 1 ∷ []
+    markAt table 3 1 9 ∷ markAt table 3 9 1 ∷ markAt table 3 2 9 ∷ markAt table 3 1 8 ∷ markAt table 3 1 1 ∷ []
     ≡ true ∷ true ∷ false ∷ false ∷ false ∷ []
 asked = refl
 
@@ -40,6 +40,6 @@ defined = refl
 
 -- A bit set again leaves the byte as it is, and two bits of one byte stand beside each other.
 pub again :
-    getD (withBit table 3 1 9) (place 3 1 9) 0 ∷ getD (withBit table 3 1 10) (place 3 1 9) 0 ∷ length (withBit table 3 128 128) ∷ []
+    getD (withBit table 3 1 9) (place 3 1 9) 0 ∷ getD (withBit table 3 2 9) (place 3 1 9) 0 ∷ length (withBit table 3 127 128) ∷ []
     ≡ 2 ∷ 6 ∷ (3 + tableLength) ∷ []
 again = refl
