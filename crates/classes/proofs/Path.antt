@@ -16,7 +16,7 @@ use Rattle.equality.specs.Node.{Decisions, merged, classOf, classes, smallestLo
 use Rattle.equality.specs.Opens.{Small}
 use Rattle.equality.proofs.Least.{least, least-again}
 use Rattle.classes.specs.declared.Classes.{Classes}
-use Rattle.classes.specs.Pairs.{setApart, withPair, PairsWithin, onlyApart, Represents}
+use Rattle.classes.specs.Pairs.{setApart, withPair, PairsWithin, Untouched, onlyApart, Represents}
 
 -- ---- marks are on pairs set apart alone
 
@@ -29,8 +29,7 @@ marked-only cs (apart a b ∷ ds) x y = ap (λ m. between cs x y a b || m) (mark
 -- ---- the pairs
 
 -- What the bytes are from the first `count` pairs on does not matter.
-pub setApart-below : (bytes bytes′ : List ℕ) (count : ℕ) → ((i : ℕ) → i < 2 * count → getD bytes′ i 0 ≡ getD bytes i 0)
-    → setApart bytes′ count ≡ setApart bytes count
+pub setApart-below : (bytes bytes′ : List ℕ) (count : ℕ) → Untouched bytes bytes′ count → setApart bytes′ count ≡ setApart bytes count
 unfolding setApart
 setApart-below bytes bytes′ zero below = refl
 setApart-below bytes bytes′ (suc n) below =
@@ -39,7 +38,7 @@ setApart-below bytes bytes′ (suc n) below =
 
 module _ (bytes : List ℕ) (count a b : ℕ) where
   -- A pair written leaves those before it,
-  pub pair-leaves : (i : ℕ) → i < 2 * count → getD (withPair bytes count a b) i 0 ≡ getD bytes i 0
+  pub pair-leaves : Untouched bytes (withPair bytes count a b) count
   pair-leaves i h =
       getD-set-other (set bytes (2 * count) a) (2 * count + 1) i b 0 (λ e. omega arith)
       ∙ getD-set-other bytes (2 * count) i a 0 (λ e. omega arith)
@@ -99,7 +98,7 @@ module _ {c : Classes} {bytes : List ℕ} {count : ℕ} {ds : Decisions} (r : Re
       record { lots = r .lots; pairs = rw (add-one count) (ap (λ (earlier : Decisions). apart a b ∷ earlier) (r .pairs) ∙ sym (setApart-pair bytes count a b h)) }
 
   -- Whatever a branch writes after the pairs, the path is represented still.
-  pub below-represents : (bytes′ : List ℕ) → ((i : ℕ) → i < 2 * count → getD bytes′ i 0 ≡ getD bytes i 0) → Represents c bytes′ count ds
+  pub below-represents : (bytes′ : List ℕ) → Untouched bytes bytes′ count → Represents c bytes′ count ds
   below-represents bytes′ below = record { lots = r .lots; pairs = r .pairs ∙ sym (setApart-below bytes bytes′ count below) }
 
   -- The pairs are within the bytes and the entries, as `marked_apart` asks, where the bytes are long enough and the path's lots have entries.

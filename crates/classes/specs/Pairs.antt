@@ -22,6 +22,10 @@ pub record PairsWithin (pairs : List ℕ) (count : ℕ) : Type 0 where
   pub within : 2 * count ≤ length pairs
   pub lots : (i : ℕ) → i < 2 * count → getD pairs i 0 ≤ mostLots
 
+-- The first `count` pairs are left as they are.
+abbrev pub Untouched : List ℕ → List ℕ → ℕ → Type 0
+Untouched pairs pairs′ count = (i : ℕ) → i < 2 * count → getD pairs′ i 0 ≡ getD pairs i 0
+
 -- The decisions "apart" of a path, in order.
 unfoldable pub onlyApart : Decisions → Decisions
 onlyApart [] = []

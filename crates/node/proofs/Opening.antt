@@ -5,7 +5,7 @@ use mathlib.Core.Bool.{Bool, true, false, cond, false≢true}
 use mathlib.Core.List.{List, [], _∷_, _++_, append-nil, append-assoc}
 use mathlib.Core.Logic.{_≢_}
 use mathlib.Core.Path.{_≡_, refl, sym, ap, _∙_}
-use borrow.Author.Tests.{ne-eqb}
+use borrow.Author.Tests.{ne-eqb, eqb-false}
 use native.Mathlib.Omega.{arith}
 use Rattle.sheet.specs.Format.{sameSign, recordCount, nextAt}
 use Rattle.sheet.specs.Checks.{Accepted}
@@ -14,13 +14,16 @@ use Rattle.buffers.specs.Lists.{All}
 use Rattle.sheet.proofs.Accepted.{sound}
 use Rattle.sheet.proofs.ChainEnds.{terms-end, terms-step}
 use Rattle.equality.specs.Meaning.{anyTerm}
-use Rattle.equality.specs.Node.{Decisions, classOf, marked, markedApart, Value, isFalse, isOpen, value, trueOrOpenApart, passedOver, ground, split, openOr, groundOrSplit}
+use Rattle.equality.specs.Node.{Decisions, classOf, classes, share, marked, markedApart, Value, isTrue, isFalse, isOpen, value, trueOrOpenApart, passedOver, ground, split, openOr, groundOrSplit}
 use Rattle.buffers.proofs.Lists.{all-map, all-first, all-second, all-both}
 use Rattle.equality.proofs.Some.{any-false, any-none, some-none}
 use Rattle.equality.proofs.Node.{openSame, settled-by-classes, unsettled-value, passed-by}
 use Rattle.equality.specs.Opens.{closedTerm}
 use Rattle.equality.proofs.Steps.{open-not-closed, not-closed-open, apart-closed, apart-closes}
 use Rattle.classes.specs.Pairs.{setApart}
+use Rattle.classes.proofs.Maps.{class-map, class-within}
+use Rattle.marks.specs.Marks.{markAt, Marks}
+use Rattle.marks.proofs.Marks.{marks-at}
 use Rattle.node.specs.Place.{PassesTo}
 
 -- ---- parts of a condition
@@ -39,6 +42,16 @@ rest-passes-none ds before after e =
 open-values : (ds : Decisions) (ts : List Term) → NonePasses ds ts → All (λ t. value ds t ≡ openSame ds t) ts
 open-values ds ts e =
     all-map (λ t f. unsettled-value ds t (sym (settled-by-classes ds t) ∙ f)) ts (any-none (λ t. trueOrOpenApart t (value ds t)) ts e)
+
+-- A "same" term among them has lots that share no class.
+unshared : (ds : Decisions) (a b : ℕ) → value ds (same a b) ≡ openSame ds (same a b) → share ds a b ≡ false
+unfolding value
+unshared ds a b = go (share ds a b) (markedApart ds a b)
+  where
+    go : (p q : Bool) → cond p isTrue (cond q isFalse isOpen) ≡ cond q isFalse isOpen → p ≡ false
+    go true true e = absurd (let z : _≡_ {A = ℕ} 0 1 = cc in omega arith)
+    go true false e = absurd (let z : _≡_ {A = ℕ} 0 1 = cc in omega arith)
+    go false q e = refl
 
 -- ---- terms of which none is open
 
@@ -74,9 +87,19 @@ module _ (ds : Decisions) (a b : ℕ) where
 
 -- ---- the loop
 
--- What `marked_apart` answers, by the map's classes and the pairs.
+-- What `marked_apart` answers, by the map's classes and the pairs;
 abbrev pub marksOf : List ℕ → List ℕ → ℕ → ℕ → ℕ → Bool
 marksOf lots pairs count a b = marked lots (setApart pairs count) (classOf lots a) (classOf lots b)
+
+-- what a table has, by the classes of two lots.
+abbrev pub tableOf : List ℕ → List ℕ → ℕ → ℕ → ℕ → Bool
+tableOf lots bytes table a b = markAt bytes table (classOf lots a) (classOf lots b)
+
+-- A table that is marked for the decisions has their marks between classes.
+pub table-says : {lots bytes : List ℕ} {table : ℕ} {ds : Decisions} → lots ≡ classes ds → Marks bytes table lots ds
+    → (a b : ℕ) → share ds a b ≡ false → tableOf lots bytes table a b ≡ markedApart ds a b
+table-says {ds = ds} e m a b n =
+    rw e (marks-at (rw e at m) _ _ (class-within (class-map ds) a) (class-within (class-map ds) b) (eqb-false _ _ n))
 
 -- A term that the classes do not make true is not open, by these marks: it is "apart", or its classes are marked apart.
 abbrev pub closedBy : (ℕ → ℕ → Bool) → Term → Bool
@@ -117,13 +140,13 @@ module _ (marks : ℕ → ℕ → Bool) (s : List ℕ) (ok : Accepted s) (from a
         place = stepped h;
       }
 
-  -- For decisions that have these marks, and do not make any of the terms true:
-  module _ (ds : Decisions) (says : (a b : ℕ) → marks a b ≡ markedApart ds a b) (none : NonePasses ds (termsFrom s from)) where
+  -- For decisions that have these marks between classes, and do not make any of the terms true:
+  module _ (ds : Decisions) (says : (a b : ℕ) → share ds a b ≡ false → marks a b ≡ markedApart ds a b) (none : NonePasses ds (termsFrom s from)) where
     values : All (λ t. value ds t ≡ openSame ds t) (l .passed ++ termsFrom s at)
     values = rw (l .place) at (open-values ds (termsFrom s from) none)
 
     not-open : (t : Term) → closedBy marks t ≡ true → value ds t ≡ openSame ds t → value ds t ≢ isOpen
-    not-open (same a b) e v o = false-open (sym v ∙ o) (ap (λ p. cond p isFalse isOpen) (sym (says a b) ∙ e))
+    not-open (same a b) e v o = false-open (sym v ∙ o) (ap (λ p. cond p isFalse isOpen) (sym (says a b (unshared ds a b v)) ∙ e))
     not-open (apart a b) e v o = false-open (sym v ∙ o) refl
 
     none-passed : NoneOpen ds (l .passed)
@@ -132,6 +155,10 @@ module _ (marks : ℕ → ℕ → Bool) (s : List ℕ) (ok : Accepted s) (from a
         go : (ts : List Term) → All (λ t. closedBy marks t ≡ true) ts → All (λ t. value ds t ≡ openSame ds t) ts → NoneOpen ds ts
         go [] e v = tt
         go (t ∷ ts) e v = (not-open t (e .0) (v .0), go ts (e .1) (v .1))
+
+    -- they may be looked at from here on;
+    pub opening-passes : PassesTo s from at ds
+    opening-passes = record { within = l .within; passed = l .passed; place = l .place; closed = none-ground ds (l .passed) none-passed }
 
     -- where the chain ends, none is open;
     pub none-open : at ≡ 0 → (c : ℕ) → ground c ≡ groundOrSplit ds c (termsFrom s from)
@@ -146,8 +173,8 @@ module _ (marks : ℕ → ℕ → Bool) (s : List ℕ) (ok : Accepted s) (from a
     open-here a b h t e c =
         let step : termsFrom s at ≡ same a b ∷ termsFrom s (nextAt s at) =
         terms-step s ok at h (l .within) ∙ ap (λ (u : Term). u ∷ termsFrom s (nextAt s at)) t in
-        let opened : value ds (same a b) ≡ isOpen =
-        (rw step at (all-second _ (l .passed) (termsFrom s at) values)) .0 ∙ ap (λ p. cond p isFalse isOpen) (sym (says a b) ∙ e) in
+        let here : value ds (same a b) ≡ openSame ds (same a b) = (rw step at (all-second _ (l .passed) (termsFrom s at) values)) .0 in
+        let opened : value ds (same a b) ≡ isOpen = here ∙ ap (λ p. cond p isFalse isOpen) (sym (says a b (unshared ds a b here)) ∙ e) in
         sym
         (ap (groundOrSplit ds c) (l .place)
         ∙ passed-by ds c (l .passed) (termsFrom s at) none-passed

@@ -40,29 +40,33 @@ module _ (s : List ℕ) (c from : ℕ) (ds : Decisions) (w : ResumesWithin s c f
       ∙ ap (groundOrSplit ds c) (w .passes .place)
       ∙ passed-by ds c (w .passes .passed) (termsFrom s from) (passed-none ds s (headAt s c) from (w .passes))
 
-  -- none of them is true or an open "apart" term,
+  -- and none of them is true or an open "apart" term.
   pub rest-passes : NonePasses ds (termsFrom s from)
   rest-passes =
       rest-passes-none ds (w .passes .passed) (termsFrom s from)
       (rw (w .passes .place) at (taken-at ds 1 (conditions s) c (conditionAt s c) (w .condition) .unmet))
+
+  -- Terms that are passed after the record come after those before it.
+  passes-through : (es : Decisions) (r : ℕ) → NoneOpen es (w .passes .passed) → PassesTo s from r es → PassesTo s (headAt s c) r es
+  passes-through es r none p =
+      record {
+        within = p .within;
+        passed = w .passes .passed ++ p .passed;
+        place =
+            w .passes .place
+            ∙ ap (λ (ts : List Term). w .passes .passed ++ ts) (p .place)
+            ∙ sym (append-assoc (w .passes .passed) (p .passed) (termsFrom s r));
+        closed = none-ground es (w .passes .passed ++ p .passed) (all-both _ (w .passes .passed) (p .passed) none (passed-none es s from r p));
+      }
+
+  -- The node goes on from a later record,
+  pub later-resumes : (r : ℕ) → PassesTo s from r ds → ResumesWithin s c r ds
+  later-resumes r p = record { condition = w .condition; passes = passes-through ds r (passed-none ds s (headAt s c) from (w .passes)) p }
 
   -- and once a pair is set apart the same condition is taken, and its terms up to the record are not open still.
   pub apart-resumes : (a b r : ℕ) → PassesTo s from r (apart a b ∷ ds) → ResumesWithin s c r (apart a b ∷ ds)
   apart-resumes a b r p =
       record {
         condition = taken-apart ds a b 1 (conditions s) ∙ w .condition;
-        passes =
-            record {
-              within = p .within;
-              passed = w .passes .passed ++ p .passed;
-              place =
-                  w .passes .place
-                  ∙ ap (λ (ts : List Term). w .passes .passed ++ ts) (p .place)
-                  ∙ sym (append-assoc (w .passes .passed) (p .passed) (termsFrom s r));
-              closed =
-                  none-ground (apart a b ∷ ds) (w .passes .passed ++ p .passed)
-                  (all-both _ (w .passes .passed) (p .passed)
-                  (none-later ds a b (w .passes .passed) (passed-none ds s (headAt s c) from (w .passes)))
-                  (passed-none (apart a b ∷ ds) s from r p));
-            };
+        passes = passes-through (apart a b ∷ ds) r (none-later ds a b (w .passes .passed) (passed-none ds s (headAt s c) from (w .passes))) p;
       }

@@ -1,10 +1,17 @@
 -- The node's answer as the definition's, and where in a condition its terms are looked at.
-use Prim.Native.Nat.{ℕ, _≤_}
+use Prim.Native.Nat.{ℕ, _+_, _*_, _≤_}
 use mathlib.Core.List.{List, _∷_, _++_}
 use mathlib.Core.Path.{_≡_}
+use lib.ListN.{length}
+use Rattle.sheet.specs.declared.Condition.{Condition}
+use Rattle.sheet.specs.declared.Term as written
 use Rattle.sheet.specs.Format.{recordCount, headAt}
 use Rattle.sheet.specs.Conditions.{Term, apart, termsFrom, conditionAt, conditions}
 use Rattle.equality.specs.Node.{Decisions, noCondition, takes, taken, Node, met, ground, split, groundOrSplit}
+use Rattle.classes.specs.declared.Classes.{Classes}
+use Rattle.classes.specs.Maps.{ClassMap}
+use Rattle.classes.specs.Pairs.{PairsWithin}
+use Rattle.marks.specs.Marks.{tableLength}
 use Rattle.node.specs.declared.Node as declared
 use Rattle.node.specs.declared.Node.the-variants.{Met, Ground, Split}
 use Rattle.node.specs.declared.Split as pair
@@ -17,6 +24,18 @@ abbrev pub nodeAs : declared.Node → Node
 nodeAs Met = met
 nodeAs (Ground c) = ground (c .0)
 nodeAs (Split on) = split (on .a .0) (on .b .0)
+
+-- A split on a term of a condition.
+abbrev pub splitOn : Condition → written.Term → declared.Node
+splitOn c t = Split (record { condition = c; a = t .a; b = t .b; after = t .next })
+
+-- ---- what the marks of a node are looked up in
+
+-- The map has its entries, and so have the lots of the first `count` pairs; behind the pairs there is room for a table.
+pub record Markable (map : Classes) (pairs : List ℕ) (count : ℕ) : Type 0 where
+  pub entries : ClassMap (map .lots)
+  pub within : PairsWithin pairs count
+  pub room : 2 * count + tableLength ≤ length pairs
 
 -- ---- where terms are looked at
 

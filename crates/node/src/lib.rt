@@ -5,16 +5,19 @@ ghost use lib.ListN.{length, set};
 ghost use Rattle.sheet.specs.Format.{recordCount};
 ghost use Rattle.sheet.specs.Conditions.{conditions};
 ghost use Rattle.equality.specs.Node.{Decisions, classes, node};
-ghost use Rattle.classes.specs.Pairs.{PairsWithin, Represents};
+ghost use Rattle.classes.specs.Maps.{ClassMap};
+ghost use Rattle.classes.specs.Pairs.{Untouched, Represents};
+ghost use Rattle.marks.specs.Marks.{Room, Marks};
 ghost use Rattle.node.specs.declared.Place.the-variants.{Within};
 ghost use Rattle.sheet.specs.Inner.{HasConditions};
 ghost use Rattle.node.specs.Settled.{Settled, Later, ClearedAbove};
-ghost use Rattle.node.specs.Place.{ResumesWithin, Resumes, Stands, PlaceWithin, nodeAs, Leaves};
+ghost use Rattle.node.specs.Place.{Markable, ResumesWithin, Resumes, Stands, PlaceWithin, nodeAs, splitOn, Leaves};
 use classes::Classes;
 use sheet::Condition;
 use sheet::Lot;
 use sheet::Record;
 use sheet::SAME;
+use sheet::Term;
 
 // Where the terms of a node are looked at: nobody knows yet, and the conditions are to be scanned; within the condition that it takes, from a record on; or
 // nowhere, since it takes none. (The apart branch of a split takes the split's condition, and no term of it up to the split's is open any more.)
@@ -136,49 +139,123 @@ pub fn locate(
     }
 }
 
-// What a node is that takes this condition, none of whose terms before a record is open: a split on the first open term from there on, else a ground. In the
-// condition taken no term is true, so an "apart" term is false, and a "same" term is open exactly where its classes are not marked apart (`unsettled-value`).
-fn first_open(
+// A split on a term of a condition.
+fn split_on(condition: Condition, t: Term) -> Node
+    ensures { λ r. ⌜ r ≡ splitOn condition t ⌝ }
+{
+    let a = t.a;
+    let b = t.b;
+    let after = t.next;
+    Node::Split(Split {
+        condition,
+        a,
+        b,
+        after,
+    })
+}
+
+// What a node is that takes this condition, none of whose terms before a record is open, by a table that is marked: a split on the first open term from there
+// on, else a ground. In the condition taken no term is true, so an "apart" term is false, and a "same" term is open exactly where its classes are not marked
+// apart (`unsettled-value`).
+fn first_unmarked(
     sheet: &[u8],
     m: u16,
-    map: Classes,
+    lots: &[u8],
     pairs: &[u8],
-    count: usize,
+    table: usize,
     condition: Condition,
     from: Record,
 ) -> Node
-    requires { ⌜ HasConditions (now sheet) m × PairsWithin (now pairs) count × (from .0 ≤ recordCount (now sheet)) ⌝ }
-    ensures node { λ r. ⌜ ((ds : Decisions) → Represents map (now (pairs .entry)) count ds → ResumesWithin (now (sheet .entry)) (condition .0) (from .0) ds → nodeAs r ≡ node ds (conditions (now (sheet .entry)))) ⌝ }
-    ensures leaves { λ r. ⌜ ((ds : Decisions) → Represents map (now (pairs .entry)) count ds → ResumesWithin (now (sheet .entry)) (condition .0) (from .0) ds → Leaves (now (sheet .entry)) r ds) ⌝ }
+    requires { ⌜ HasConditions (now sheet) m × ClassMap (now lots) × Room (now pairs) table × (from .0 ≤ recordCount (now sheet)) ⌝ }
+    ensures node { λ r. ⌜ ((ds : Decisions) → now (lots .entry) ≡ classes ds → Marks (now (pairs .entry)) table (now (lots .entry)) ds → ResumesWithin (now (sheet .entry)) (condition .0) (from .0) ds → nodeAs r ≡ node ds (conditions (now (sheet .entry)))) ⌝ }
+    ensures leaves { λ r. ⌜ ((ds : Decisions) → now (lots .entry) ≡ classes ds → Marks (now (pairs .entry)) table (now (lots .entry)) ds → ResumesWithin (now (sheet .entry)) (condition .0) (from .0) ds → Leaves (now (sheet .entry)) r ds) ⌝ }
 {
     let mut at = from;
     while at.0 != 0 {
         let t = sheet::chain::term_at(sheet, at, m);
-        let a = t.a;
-        let b = t.b;
-        let after = t.next;
         if t.sign == SAME {
-            let mark = map.marked_apart(pairs, count, a, b);
-            if !mark.marked {
-                return Node::Split(Split {
-                    condition,
-                    a,
-                    b,
-                    after,
-                });
+            let a = t.a.0 as usize;
+            let b = t.b.0 as usize;
+            if !marks::is_marked(pairs, table, lots[a], lots[b]) {
+                return split_on(condition, t);
             }
         }
-        at = after;
+        at = t.next;
     }
     Node::Ground(condition)
 }
 
+// The same by the pairs, from which the table behind them is marked for this node alone: it costs the pairs and the terms, not their product. The map is
+// taken by value, so that the nodes that come without a table do not copy it.
+fn by_table(
+    sheet: &[u8],
+    m: u16,
+    map: Classes,
+    pairs: &mut [u8],
+    count: usize,
+    condition: Condition,
+    from: Record,
+) -> Node
+    requires { ⌜ HasConditions (now sheet) m × Markable map (now pairs) count × (from .0 ≤ recordCount (now sheet)) ⌝ }
+    ensures node { λ r. ⌜ ((ds : Decisions) → Represents map (now (pairs .entry)) count ds → ResumesWithin (now (sheet .entry)) (condition .0) (from .0) ds → nodeAs r ≡ node ds (conditions (now (sheet .entry)))) ⌝ }
+    ensures leaves { λ r. ⌜ ((ds : Decisions) → Represents map (now (pairs .entry)) count ds → ResumesWithin (now (sheet .entry)) (condition .0) (from .0) ds → Leaves (now (sheet .entry)) r ds) ⌝ }
+    ensures untouched { λ r. ⌜ Untouched (now (pairs .entry)) (now (pairs .exit)) count ⌝ }
+{
+    let table = pairs.len() - marks::TABLE_LENGTH;
+    marks::stamp_pairs(pairs, table, &map.lots, count);
+    first_unmarked(sheet, m, &map.lots, pairs, table, condition, from)
+}
+
+// The same, where a table is marked only once the pairs walked over for false terms are many: most nodes look at a term or two, and few pairs.
+fn first_open(
+    sheet: &[u8],
+    m: u16,
+    map: Classes,
+    pairs: &mut [u8],
+    count: usize,
+    condition: Condition,
+    from: Record,
+) -> Node
+    requires { ⌜ HasConditions (now sheet) m × Markable map (now pairs) count × (from .0 ≤ recordCount (now sheet)) ⌝ }
+    ensures node { λ r. ⌜ ((ds : Decisions) → Represents map (now (pairs .entry)) count ds → ResumesWithin (now (sheet .entry)) (condition .0) (from .0) ds → nodeAs r ≡ node ds (conditions (now (sheet .entry)))) ⌝ }
+    ensures leaves { λ r. ⌜ ((ds : Decisions) → Represents map (now (pairs .entry)) count ds → ResumesWithin (now (sheet .entry)) (condition .0) (from .0) ds → Leaves (now (sheet .entry)) r ds) ⌝ }
+    ensures untouched { λ r. ⌜ Untouched (now (pairs .entry)) (now (pairs .exit)) count ⌝ }
+{
+    let mut at = from;
+    let mut walked: usize = 0;
+    while at.0 != 0 && walked < marks::WALKED {
+        let t = sheet::chain::term_at(sheet, at, m);
+        if t.sign == SAME {
+            let a = t.a;
+            let b = t.b;
+            let mark = map.marked_apart(pairs, count, a, b);
+            if !mark.marked {
+                return split_on(condition, t);
+            }
+            walked += count;
+        }
+        at = t.next;
+    }
+    if at.0 == 0 {
+        return Node::Ground(condition);
+    }
+    by_table(sheet, m, map, pairs, count, condition, at)
+}
+
 // The node of a path, whose classes and pairs set apart are given: met where it takes no condition, otherwise a ground or a split of the condition taken.
-// (Where it is not known, nothing is said: `locate` is asked first.)
-pub fn node_at(sheet: &[u8], m: u16, map: Classes, pairs: &[u8], count: usize, place: Place) -> Node
-    requires { ⌜ HasConditions (now sheet) m × PairsWithin (now pairs) count × PlaceWithin (now sheet) place ⌝ }
+// (Where it is not known, nothing is said: `locate` is asked first.) The last bytes of the pairs are for a table; those between are left as they are.
+pub fn node_at(
+    sheet: &[u8],
+    m: u16,
+    map: Classes,
+    pairs: &mut [u8],
+    count: usize,
+    place: Place,
+) -> Node
+    requires { ⌜ HasConditions (now sheet) m × Markable map (now pairs) count × PlaceWithin (now sheet) place ⌝ }
     ensures node { λ r. ⌜ ((ds : Decisions) → Represents map (now (pairs .entry)) count ds → Stands (now (sheet .entry)) place ds → nodeAs r ≡ node ds (conditions (now (sheet .entry)))) ⌝ }
     ensures leaves { λ r. ⌜ ((ds : Decisions) → Represents map (now (pairs .entry)) count ds → Stands (now (sheet .entry)) place ds → Leaves (now (sheet .entry)) r ds) ⌝ }
+    ensures untouched { λ r. ⌜ Untouched (now (pairs .entry)) (now (pairs .exit)) count ⌝ }
 {
     match place {
         Place::Within(c, from) => first_open(sheet, m, map, pairs, count, c, from),

@@ -67,10 +67,6 @@ pub record Splittable (s : List ℕ) (map : Classes) (on : Split) (count level :
 
 -- ---- what it does
 
--- A visit leaves the first `count` pairs as they are; it writes after them.
-abbrev pub Untouched : List ℕ → List ℕ → ℕ → Type 0
-Untouched pairs pairs′ count = (i : ℕ) → i < 2 * count → getD pairs′ i 0 ≡ getD pairs i 0
-
 -- How a visit ends whose nodes, with those before, come to `count` records.
 abbrev pub endWith : Bool → ℕ → Visited
 endWith true count = Met count
