@@ -18,15 +18,17 @@ use Rattle.equality.specs.Opens.{Small, closed, opens, allOpens}
 use Rattle.equality.proofs.Rule.{split-at}
 use Rattle.equality.proofs.Opens.{split-all, same-fewer, apart-fewer}
 use Rattle.classes.specs.declared.Classes.{Classes}
-use Rattle.classes.specs.Pairs.{setApart, withPair, PairsWithin}
+use Rattle.classes.specs.Pairs.{setApart, withPair, PairsWithin, Untouched}
 use Rattle.classes.proofs.Path.{pair-leaves, new-represents, join-represents, apart-represents, below-represents, represented-within, smallest-says, marked-says}
+use Rattle.classes.proofs.Maps.{class-map}
+use Rattle.marks.specs.Marks.{tableLength}
 use Rattle.node.specs.declared.Place.{Place}
 use Rattle.node.specs.declared.Place.the-variants.{Scan, Within, Nowhere}
-use Rattle.node.specs.Place.{ResumesWithin, Resumes, PlaceWithin}
+use Rattle.node.specs.Place.{Markable, ResumesWithin, Resumes, PlaceWithin}
 use Rattle.node.specs.Settled.{Settled, Later}
 use Rattle.node.proofs.Settling.{taken-number, same-settled, same-later, later-through}
 use Rattle.search.specs.Limits.{pairsRoom}
-use Rattle.search.specs.Visited.{Standing, LevelWithin, Untouched}
+use Rattle.search.specs.Visited.{Standing, LevelWithin}
 use Rattle.classes.specs.Maps.{ClassesWithin}
 use Rattle.search.proofs.Limits.{opens-within, pairs-enough, pairs-count, levels-enough, level-fits}
 
@@ -111,8 +113,8 @@ start-settled cs s n m h e =
 pub start-level : (s : List ℕ) → Accepted s → LevelWithin s 1 []
 start-level s ok = omega (arith, opens-within s ok [], levels-enough)
 
--- No decision, and all the room that there is for pairs.
-pub start-standing : (s : List ℕ) → Accepted s → (map : Classes) (pairs : List ℕ) → map .lots ≡ classes [] → length pairs ≡ pairsRoom → Standing s map pairs 0 []
+-- No decision, and all the room that there is for pairs and a table.
+pub start-standing : (s : List ℕ) → Accepted s → (map : Classes) (pairs : List ℕ) → map .lots ≡ classes [] → length pairs ≡ pairsRoom + tableLength → Standing s map pairs 0 []
 start-standing s ok map pairs new len =
     record {
       represents = new-represents map pairs new;
@@ -133,8 +135,21 @@ module _ {s : List ℕ} {map : Classes} {pairs : List ℕ} {count : ℕ} {ds : D
   pub pairs-within : PairsWithin pairs count
   pairs-within = represented-within (st .represents) (st .small) (omega (arith, st .room))
 
+  pub markable : Markable map pairs count
+  markable = record { entries = rw (st .represents .lots) (class-map ds); within = pairs-within; room = omega (arith, st .room) }
+
   pub entries-within : ClassesWithin (map .lots)
   entries-within lot h = omega (arith, smallest-says (st .represents) lot, least ds lot)
+
+  -- Whatever is written after the pairs, the path stands so.
+  pub below-standing : (pairs′ : List ℕ) → length pairs′ ≡ length pairs → Untouched pairs pairs′ count → Standing s map pairs′ count ds
+  below-standing pairs′ len untouched =
+      record {
+        represents = below-represents (st .represents) pairs′ untouched;
+        small = st .small;
+        room = omega (arith, st .room);
+        size = omega (arith, st .size);
+      }
 
   module _ (ok : Accepted s) (a b : ℕ) (e : node ds (conditions s) ≡ split a b) where
     pub split-small : (a ≤ mostLots) × (b ≤ mostLots)
@@ -181,11 +196,16 @@ module _ {s : List ℕ} {map : Classes} {pairs : List ℕ} {count : ℕ} {ds : D
     apart-standing pairs′ pairs″ len untouched set =
         rw set
         (record {
-          represents = apart-represents (below-represents (st .represents) pairs′ untouched) a b (omega (arith, pair-room));
+          represents = apart-represents (below-standing pairs′ len untouched .represents) a b (omega (arith, pair-room));
           small = (split-small, st .small);
           room = simp length-set (omega (arith, st .room, apart-falls));
           size = simp length-set (omega (arith, st .size));
         })
+
+-- and its open "same" terms are as many.
+pub below-same : {s : List ℕ} {map : Classes} {pairs : List ℕ} {count : ℕ} {ds : Decisions} → Standing s map pairs count ds
+    → (pairs′ : List ℕ) → length pairs′ ≡ length pairs → Untouched pairs pairs′ count → openByMap s (map .lots) pairs′ count ≡ openByMap s (map .lots) pairs count
+below-same st pairs′ len untouched = counted (below-standing st pairs′ len untouched) ∙ sym (counted st)
 
 -- Open "same" terms are fewer in each branch.
 module _ {s : List ℕ} {map : Classes} {pairs : List ℕ} {count : ℕ} {ds : Decisions} (st : Standing s map pairs count ds)

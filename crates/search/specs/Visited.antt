@@ -15,6 +15,7 @@ use Rattle.equality.specs.Opens.{Small, allOpens}
 use Rattle.equality.specs.Visits.{Visits}
 use Rattle.classes.specs.declared.Classes.{Classes}
 use Rattle.classes.specs.Pairs.{Represents}
+use Rattle.marks.specs.Marks.{tableLength}
 use Rattle.node.specs.declared.Place.{Place}
 use Rattle.node.specs.declared.Split.{Split}
 use Rattle.sheet.specs.Inner.{HasConditions}
@@ -36,13 +37,13 @@ pub record Searchable (s : List ℕ) (m : ℕ) (grouping : List ℕ) : Type 0 wh
   pub sheet : HasConditions s m
   pub lots : length grouping ≤ mostLots
 
--- The map and the first `count` pairs are those of the path `ds`, whose lots have entries in the map. The pairs have room for as many more as there are
--- open "same" terms, and no more than they have in the code.
+-- The map and the first `count` pairs are those of the path `ds`, whose lots have entries in the map. The bytes have room for as many pairs more as there
+-- are open "same" terms, and for a table behind them; and no more than they have in the code.
 pub record Standing (s : List ℕ) (map : Classes) (pairs : List ℕ) (count : ℕ) (ds : Decisions) : Type 0 where
   pub represents : Represents map pairs count ds
   pub small : All Small ds
-  pub room : 2 * (count + allOpens ds (conditions s)) ≤ length pairs
-  pub size : length pairs ≤ pairsRoom
+  pub room : 2 * (count + allOpens ds (conditions s)) + tableLength ≤ length pairs
+  pub size : length pairs ≤ pairsRoom + tableLength
 
 -- The level of the path leaves room for one more for each open "same" term.
 abbrev pub LevelWithin : List ℕ → ℕ → Decisions → Type 0

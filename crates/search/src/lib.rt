@@ -12,8 +12,9 @@ ghost use Rattle.store.specs.Records.{capacity};
 ghost use Rattle.outcome.specs.Outcome.{resultOf, searchOutcome};
 ghost use Rattle.search.specs.Answers.{searchAnswer};
 ghost use Rattle.search.specs.Promises.{searchCase, RefusedExactly, FullExactly, FullPlace, MetExactly, MetGrouping, CannotExactly, CannotRefutes, CountBounded};
-ghost use Rattle.search.specs.Visited.{Searchable, Visitable, Splittable, Untouched, Explored, VisitExplores, SplitExplores, EndsAs};
+ghost use Rattle.search.specs.Visited.{Searchable, Visitable, Splittable, Explored, VisitExplores, SplitExplores, EndsAs};
 ghost use Rattle.classes.specs.Maps.{ClassesWithin};
+ghost use Rattle.classes.specs.Pairs.{Untouched};
 use classes::Classes;
 use node::Node;
 use node::Place;
@@ -25,6 +26,9 @@ use store::NodeRecord;
 
 // The bytes of the pairs that a path can set apart (`pairsRoom`): two for each split that it can have.
 const PAIRS_LENGTH: usize = 2048;
+
+// The bytes for them and, behind them, for the table of a node's marks.
+const MARKS_LENGTH: usize = PAIRS_LENGTH + marks::TABLE_LENGTH;
 
 // The settled levels: one for each condition that a sheet can have.
 const LEVELS_LENGTH: usize = 256;
@@ -93,8 +97,8 @@ fn write_grouping(grouping: &mut [u8], map: Classes)
     }
 }
 
-// The node of a path, and all under it: its record is written, and a split's branches are visited. `count` is how many pairs the path sets apart; `levels` are
-// the settled levels, of conditions that the path settles.
+// The node of a path, and all under it: its record is written, and a split's branches are visited. `count` is how many pairs the path sets apart, behind which a
+// node may mark its table; `levels` are the settled levels, of conditions that the path settles.
 fn visit(
     sheet: &[u8],
     map: Classes,
@@ -178,7 +182,7 @@ fn start(sheet: &[u8], m: u16, grouping: &mut [u8], store: &mut [u8]) -> Visited
     requires { ⌜ Searchable (now sheet) m (now grouping) ⌝ }
     ensures { λ r. ⌜ Explored 0 (now (store .entry)) (now (store .exit)) (now (grouping .entry)) (now (grouping .exit)) r (searchTree (conditions (now (sheet .entry)))) ⌝ }
 {
-    let mut pairs = [0u8; PAIRS_LENGTH];
+    let mut pairs = [0u8; MARKS_LENGTH];
     let mut levels = [0u16; LEVELS_LENGTH];
     let room = m as usize;
     let map = Classes::new();

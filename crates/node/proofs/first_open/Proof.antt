@@ -157,16 +157,18 @@ returns c =
     let low = record-number d in
     let here : termAt s (place d) ≡ same a b = term-of term ∙ sign-same _ _ _ (looked .before .before .before .before .if3 .taken) in
     let open-term : marks d a b ≡ false = sym (looked .marked-apart .ensures .1) ∙ not-true _ (c .before .if4 .taken) in
-    rw (c .split-on .ensures)
-    ((λ ds rep w.
-          open-here _ s (accepted d) (from d) (place d) (walked d) ds (λ u v n. marked-says rep u v) (rest-passes s condition (from d) ds w) a b low here open-term condition
-          ∙ sym (rest-decides s condition (from d) ds w)), (
+    rw (c .split-on .ensures) (
       (λ ds rep w.
-          apart-resumes s condition (from d) ds w a b _
-          (subst (λ (r : ℕ). PassesTo s (from d) r (apart a b ∷ ds)) (next-of term)
-          (open-leaves _ s (accepted d) (from d) (place d) (walked d) ds (λ u v n. marked-says rep u v) (rest-passes s condition (from d) ds w) a b low here))),
-      (λ i h. refl),
-    ))
+          open-here _ s (accepted d) (from d) (place d) (walked d) ds (λ u v n. marked-says rep u v) (rest-passes s condition (from d) ds w) a b low here open-term condition
+          ∙ sym (rest-decides s condition (from d) ds w)),
+      (
+        (λ ds rep w.
+            apart-resumes s condition (from d) ds w a b _
+            (subst (λ (r : ℕ). PassesTo s (from d) r (apart a b ∷ ds)) (next-of term)
+            (open-leaves _ s (accepted d) (from d) (place d) (walked d) ds (λ u v n. marked-says rep u v) (rest-passes s condition (from d) ds w) a b low here))),
+        (λ i h. refl),
+      ),
+    )
 
 -- ---- no term is left
 
@@ -205,10 +207,10 @@ returns-3 c =
     let first = start .args .from .0 in
     let at = looped left .loop in
     let further : (ds : Decisions) → Represents (start .args .map) (start .args .pairs .now) (start .args .count) ds → ResumesWithin s condition first ds
-        → ResumesWithin s condition (at .at .0) ds =
-        λ ds rep w.
-            later-resumes s condition first ds w (at .at .0)
-            (opening-passes _ s (start .pre .0 .accepted) first (at .at .0) (at .inv) ds (λ u v n. marked-says rep u v) (rest-passes s condition first ds w)) in (
+    → ResumesWithin s condition (at .at .0) ds =
+    λ ds rep w.
+    later-resumes s condition first ds w (at .at .0)
+    (opening-passes _ s (start .pre .0 .accepted) first (at .at .0) (at .inv) ds (λ u v n. marked-says rep u v) (rest-passes s condition first ds w)) in (
       (λ ds rep w. done .by-table .ensures .0 ds rep (further ds rep w)),
       ((λ ds rep w. done .by-table .ensures .1 .0 ds rep (further ds rep w)), done .by-table .ensures .1 .1),
     )

@@ -158,8 +158,7 @@ returns c =
     let low = record-number d in
     let here : termAt s (place d) ≡ same a b = term-of term ∙ sign-same _ _ _ (looked .before .before .before .before .before .if2 .taken) in
     let open-term : marks d a b ≡ false = sym (looked .is-marked .ensures) ∙ not-true _ (c .before .if3 .taken) in
-    rw (c .split-on .ensures)
-    (
+    rw (c .split-on .ensures) (
       (λ ds map table w.
           open-here _ s (accepted d) (from d) (place d) (walked d) ds (table-says map table) (rest-passes s condition (from d) ds w) a b low here open-term condition
           ∙ sym (rest-decides s condition (from d) ds w)),

@@ -33,7 +33,7 @@ use Rattle.search.proofs.Visited as ends
 use Rattle.search.proofs.Exploring.{none-explored, met-explored, ground-explored}
 use Rattle.search.proofs.Splitting.{split-ended, split-over, split-apart}
 use Rattle.search.proofs.Room.{has-place, number-fits}
-use Rattle.search.proofs.Standing.{openByMap, place-within, split-number, under-settled, under-later, same-level, apart-level, level-room, count-room, pairs-within, entries-within, split-small, same-standing, same-less, pair-room, apart-standing, apart-less, untouched-through}
+use Rattle.search.proofs.Standing.{openByMap, place-within, split-number, under-settled, under-later, same-level, apart-level, level-room, count-room, markable, entries-within, split-small, same-standing, same-less, pair-room, apart-standing, apart-less, below-standing, below-same, untouched-through}
 use borrow.Fn.Kinds.{In}
 use borrow.Fn.PlainCycle.{Measures, is, falls, and}
 use Rattle.search.proofs.branches.Reads as branches
@@ -543,15 +543,18 @@ module _ (t : ℕ) where
   abbrev Room : Type 0
   Room = visit-lts.Else1 (visit-claims t) (visit-at t) visit.Post
 
-  -- and where the node is known.
+  -- and where the node is known, and the pairs are back.
   abbrev Known : Type 0
-  Known = visit-lts.After-node-at (visit-claims t) (visit-at t) visit.Post
+  Known = visit-lts.After-slice-known6 (visit-claims t) (visit-at t) visit.Post
 
   abbrev room-opened : Room → Opened
   room-opened c = c .before .before .before .before .before .before .before .before
 
+  abbrev looked : Known → visit-lts.After-node-at (visit-claims t) (visit-at t) visit.Post
+  looked c = c .before .before
+
   abbrev located : Known → visit-lts.After-locate (visit-claims t) (visit-at t) visit.Post
-  located c = c .before .before .before .before
+  located c = looked c .before .before .before .before
 
   abbrev roomy : Known → Room
   roomy c = located c .before .before
@@ -573,14 +576,25 @@ module _ (t : ℕ) where
   visit-room c = omega (arith, c .before .capacity-of .ensures, c .if1 .left)
 
   -- what kind it is,
-  visit-node : (c : Known) (ds : Decisions) → Visited-by (opened c) ds → node ds (conditions (sheet (opened c))) ≡ nodeAs (c .node-at .result)
-  visit-node c ds at = sym (c .node-at .ensures .0 ds (at .0 .represents) (located c .locate .ensures .0 ds (at .0 .represents .lots) (at .1)))
+  visit-node : (c : Known) (ds : Decisions) → Visited-by (opened c) ds → node ds (conditions (sheet (opened c))) ≡ nodeAs (looked c .node-at .result)
+  visit-node c ds at = sym (looked c .node-at .ensures .0 ds (at .0 .represents) (located c .locate .ensures .0 ds (at .0 .represents .lots) (at .1)))
 
   -- and, if it is a split, where its apart branch goes on.
-  visit-leaves : (c : Known) (ds : Decisions) → Visited-by (opened c) ds → (kind : declared.Node) → c .node-at .result ≡ kind → Leaves (sheet (opened c)) kind ds
+  visit-leaves : (c : Known) (ds : Decisions) → Visited-by (opened c) ds → (kind : declared.Node) → looked c .node-at .result ≡ kind → Leaves (sheet (opened c)) kind ds
   visit-leaves c ds at kind e =
       subst (λ (n : declared.Node). Leaves (sheet (opened c)) n ds) e
-      (c .node-at .ensures .1 ds (at .0 .represents) (located c .locate .ensures .0 ds (at .0 .represents .lots) (at .1)))
+      (looked c .node-at .ensures .1 .0 ds (at .0 .represents) (located c .locate .ensures .0 ds (at .0 .represents .lots) (at .1)))
+
+  -- The pairs once the node has marked its table, or has not: they are as they were.
+  abbrev pairs₁ : Known → List ℕ
+  pairs₁ c = looked c .node-at .last .1 .1 .1 .0
+
+  abbrev pairs₁-sized : (c : Known) → length (pairs₁ c) ≡ length (opened c .args .pairs .now)
+  pairs₁-sized c = looked c .node-at .kept .1 .1 .1 .0
+
+  visit-standing : (c : Known) (ds : Decisions) → Standing (sheet (opened c)) (opened c .args .map) (opened c .args .pairs .now) (opened c .args .count) ds
+      → Standing (sheet (opened c)) (opened c .args .map) (pairs₁ c) (opened c .args .count) ds
+  visit-standing c ds st = below-standing st (pairs₁ c) (pairs₁-sized c) (looked c .node-at .ensures .1 .1)
 
   -- ---- visit: its needs
 
@@ -614,7 +628,7 @@ module _ (t : ℕ) where
   visit-node-at-requires c κs =
       let d = c .before .before .before in
       let start = room-opened (d .before .before) in
-      (start .pre .1 .0 .sheet, pairs-within (start .pre .1 .1 .standing), d .locate .ensures .1 .0)
+      (start .pre .1 .0 .sheet, markable (start .pre .1 .1 .standing), d .locate .ensures .1 .0)
 
   -- It is met:
   visit-enum-told : visit-lts.Need-enum-told (visit-claims t) (visit-at t) visit.Post
@@ -662,14 +676,14 @@ module _ (t : ℕ) where
       let start = opened found in
       let path = start .pre .1 .1 in
       let kind = split-found .node2 .given .1 in (
-        omega (arith, start .pre .0),
+        omega (arith, start .pre .0, below-same (path .standing) (pairs₁ found) (pairs₁-sized found) (looked found .node-at .ensures .1 .1)),
         (
           start .pre .1 .0,
           visit-room (roomy found),
           record {
             settled = located found .locate .ensures .1 .1 .0;
             path = path .path;
-            standing = path .standing;
+            standing = visit-standing found (path .path) (path .standing);
             splits = visit-node found (path .path) (path .standing, path .resumes) ∙ ap nodeAs kind;
             leaves = visit-leaves found (path .path) (path .standing, path .resumes) _ kind;
             levels = path .levels;
@@ -678,7 +692,7 @@ module _ (t : ℕ) where
       )
 
   -- The ends of the met node,
-  abbrev grouped : visit-lts.After-slice-known7 (visit-claims t) (visit-at t) visit.Post → visit-lts.After-write-grouping (visit-claims t) (visit-at t) visit.Post
+  abbrev grouped : visit-lts.After-slice-known8 (visit-claims t) (visit-at t) visit.Post → visit-lts.After-write-grouping (visit-claims t) (visit-at t) visit.Post
   grouped c = c .before .before
 
   visit-same-length-2 : visit-lts.Need-same-length-2 (visit-claims t) (visit-at t) visit.Post
@@ -706,7 +720,7 @@ module _ (t : ℕ) where
             (met-tree v (visit-node found ds (st, res) ∙ ap nodeAs (told .enum-told .given .1)))
             (record-at .write .ensures ∙ ap (λ (k : ℕ). sets (start .args .store .now) (recordLength * k) (encode metRecord)) place)
             (grouped c .write-grouping .ensures ∙ ap (λ (lots : List ℕ). take (length (start .args .grouping .now)) (drop 1 lots)) (st .represents .lots))),
-        ((λ i h. refl), located found .locate .ensures .1 .1 .1),
+        (looked found .node-at .ensures .1 .1, located found .locate .ensures .1 .1 .1),
       )
 
   -- of a ground,
@@ -731,7 +745,7 @@ module _ (t : ℕ) where
             ground-explored (start .args .at .before) (start .args .store .now) _ (start .args .grouping .now) (visit-room (roomy found)) (condition .0 .0 .0) tree
             (ground-tree v (visit-node found ds (st, res) ∙ ap nodeAs (condition .1)))
             (record-at .write2 .ensures ∙ ap (λ (k : ℕ). sets (start .args .store .now) (recordLength * k) (encode (groundRecord (condition .0 .0 .0)))) place)),
-        ((λ i h. refl), located found .locate .ensures .1 .1 .1),
+        (looked found .node-at .ensures .1 .1, located found .locate .ensures .1 .1 .1),
       )
 
   -- and of a split.
@@ -754,8 +768,8 @@ module _ (t : ℕ) where
       let found = split-found .before .before in
       let kind = split-found .node2 .given .1 in (
         (λ ds tree st res v.
-            ended .branches .ensures .0 ds tree st (visit-node found ds (st, res) ∙ ap nodeAs kind) (visit-leaves found ds (st, res) _ kind) v),
-        (ended .branches .ensures .1 .0, later-through _ _ _ _ (located found .locate .ensures .1 .1 .1) (ended .branches .ensures .1 .1)),
+            ended .branches .ensures .0 ds tree (visit-standing found ds st) (visit-node found ds (st, res) ∙ ap nodeAs kind) (visit-leaves found ds (st, res) _ kind) v),
+        ((λ i h. ended .branches .ensures .1 .0 i h ∙ looked found .node-at .ensures .1 .1 i h), later-through _ _ _ _ (located found .locate .ensures .1 .1 .1) (ended .branches .ensures .1 .1)),
       )
 
 pub +branches+visit-spec : {M : Type 1} → statement M
