@@ -3,7 +3,7 @@ use Prim.Native.Nat.{ℕ, _*_, _+_, _≤_, _<_}
 use mathlib.Core.Bool.{Bool, true, false, cond, _&&_, _||_}
 use mathlib.Core.List.{List, [], _∷_}
 use mathlib.Core.Logic.{_≢_}
-use mathlib.Core.Path.{_≡_, refl, sym, ap, _∙_}
+use mathlib.Core.Path.{_≡_, refl, sym, ap, subst, _∙_}
 use native.Mathlib.Numerals.{add-one}
 use native.Mathlib.Omega.{arith}
 use borrow.Author.Tests.{ltb-true, ltb-false}
@@ -11,12 +11,11 @@ use lib.Dec.{eqb, ltb}
 use lib.ListN.{getD}
 use Rattle.sheet.specs.Format.{mostLots}
 use Rattle.sheet.specs.Conditions.{same, apart}
-use Rattle.equality.specs.Node.{Decisions, classOf, between, marked, markedApart}
+use Rattle.equality.specs.Node.{Decisions, classOf, between, marked}
 use Rattle.equality.proofs.Truth.{marked-sym}
 use Rattle.classes.specs.declared.Classes.{Classes}
-use Rattle.classes.specs.Maps.{ClassesWithin}
 use Rattle.classes.specs.Pairs.{setApart, PairsWithin, onlyApart, Represents}
-use Rattle.classes.proofs.Path.{marked-only, setApart-below, marked-says}
+use Rattle.classes.proofs.Path.{marked-only, setApart-below}
 use Rattle.marks.specs.Marks.{bitAt, markAt, Unmarked, Marks, Outside, MarkedToo}
 
 -- ---- decision by decision
@@ -72,12 +71,10 @@ marked-again {before} {at = at} {x = x} {y = y} s t u v hu hv =
     twice true b = refl
     twice false b = refl
 
--- The table of a path's pairs says whether the classes of two lots are marked apart.
-pub marks-say : {map : Classes} {bytes : List ℕ} {count : ℕ} {ds : Decisions} → Represents map bytes count ds → ClassesWithin (map .lots)
-    → {l : List ℕ} {at : ℕ} → Marks l at (map .lots) (setApart bytes count)
-    → (a b : ℕ) → a ≤ mostLots → b ≤ mostLots → classOf (map .lots) a ≢ classOf (map .lots) b
-    → markAt l at (classOf (map .lots) a) (classOf (map .lots) b) ≡ markedApart ds a b
-marks-say r within m a b ha hb n = marks-at m _ _ (within a ha) (within b hb) n ∙ marked-says r a b
+-- The table of a path's pairs is the path's.
+pub marks-represent : {map : Classes} {bytes : List ℕ} {count : ℕ} {ds : Decisions} → Represents map bytes count ds
+    → {l : List ℕ} {at : ℕ} → Marks l at (map .lots) (setApart bytes count) → Marks l at (map .lots) ds
+marks-represent {map} {ds = ds} r {l} {at} m = marks-only ds (subst (λ (es : Decisions). Marks l at (map .lots) es) (sym (r .pairs)) m)
 
 -- ---- the pairs in front of it
 
