@@ -1,7 +1,7 @@
 //! The classes of input: valid and damaged sheets, groupings, stores, and refutations of every hand.
 use crate::case::{Case, grouping, probe, store_length};
 use crate::damage::{Damaged, list_fault};
-use crate::families::{bytes, deep, joined, wide, wide_and_met, wide_and_met_count, wide_count};
+use crate::families::{bytes, deep, joined, marked, wide, wide_and_met, wide_and_met_count, wide_count};
 use crate::lists;
 use crate::random::Random;
 use crate::run::Class;
@@ -21,6 +21,7 @@ pub const CLASSES: &[Class] = &[
     Class { name: "long searches", count: 400, make: long_search },
     Class { name: "wide families, stores around the count", count: 2_000, make: wide_family },
     Class { name: "deep paths", count: 60, make: deep_family },
+    Class { name: "terms false by many pairs", count: 1_500, make: many_marks },
     Class { name: "stores of any length", count: 4_000, make: any_store },
     Class { name: "the search's grouping, also with a byte changed", count: 6_000, make: own_grouping },
     Class { name: "sheets with one fault", count: 40_000, make: one_fault },
@@ -29,6 +30,7 @@ pub const CLASSES: &[Class] = &[
     Class { name: "random bytes as a sheet", count: 8_000, make: random_bytes },
     Class { name: "the search's refutation with faults", count: 24_000, make: faulty_refutation },
     Class { name: "long refutations with faults", count: 300, make: faulty_long_refutation },
+    Class { name: "refutations with many marks, with faults", count: 1_500, make: faulty_many_marks },
     Class { name: "refutations changed as trees", count: 8_000, make: changed_tree },
     Class { name: "refutations of other hands", count: 8_000, make: other_hand },
     Class { name: "refutations of other hands with faults", count: 6_000, make: faulty_other_hand },
@@ -78,6 +80,18 @@ fn deep_family(random: &mut Random, number: usize) -> Case {
     let found = probe(&sheet, 3000);
     let store_length = NODE_LENGTH * random.pick(&[found.count(), found.count() - 1, found.count() + 1]);
     Case { sheet, grouping: grouping(lots, random), store_length, list: found.nodes, fill: 0xFF }
+}
+
+/// So many terms and pairs that some nodes and grounds walk over the pairs, some mark a table, and some do the one and then the other.
+fn sheet_with_marks(random: &mut Random) -> Vec<u8> {
+    let lots = random.range(6, 16);
+    let (pairs, terms) = (random.pick(&[4, 15, 31, 32, 33, 63, 64, 65, 90]), random.range(1, 40));
+    let conditions = marked(lots, pairs, terms, random);
+    sheets::write_in_some_order(lots + 4, &conditions, random)
+}
+
+fn many_marks(random: &mut Random, _: usize) -> Case {
+    Case::with_room(sheet_with_marks(random), 4000, random)
 }
 
 /// S = 0, no whole number of records, and stores longer than any sheet's count.
@@ -168,6 +182,12 @@ fn faulty_refutation(random: &mut Random, _: usize) -> Case {
 /// Where the search was met or took too long, there is no list, and the fault is all of it.
 fn faulty_long_refutation(random: &mut Random, _: usize) -> Case {
     let sheet = sheets::dense(random);
+    let found = probe(&sheet, 4000);
+    with_faults(sheet, found.nodes, random)
+}
+
+fn faulty_many_marks(random: &mut Random, _: usize) -> Case {
+    let sheet = sheet_with_marks(random);
     let found = probe(&sheet, 4000);
     with_faults(sheet, found.nodes, random)
 }

@@ -62,3 +62,21 @@ pub fn joined(lots: usize) -> Vec<Vec<Term>> {
     conditions.push(vec![apart(1, lots)]);
     conditions
 }
+
+/// A first condition multiplies nodes, the next sets up to `pairs` random pairs apart, and one further has `terms` over these pairs, with an "apart" term that is false
+/// and now and then a pair of its own: at many nodes terms are false by many pairs. Joins before them give some of the lots another class.
+pub fn marked(lots: usize, pairs: usize, terms: usize, random: &mut Random) -> Vec<Vec<Term>> {
+    let mut all: Vec<(usize, usize)> = (1..=lots).flat_map(|a| (1..a).map(move |b| (a, b))).collect();
+    random.shuffle(&mut all);
+    let (set, others) = all.split_at(pairs.min(all.len()));
+    let joins: Vec<Vec<Term>> = (0..random.below(4)).map(|_| vec![same(random.range(1, lots), random.range(1, lots))]).collect();
+    let multiplies = (1..=random.range(1, 3)).map(|own| same(lots + 1, lots + 1 + own)).collect();
+    let either_way = |(a, b): (usize, usize), turned: bool| if turned { same(b, a) } else { same(a, b) };
+    let mut last: Vec<Term> = (0..terms).map(|_| either_way(random.pick(set), random.chance(50))).collect();
+    last.insert(random.below(terms + 1), apart(1, 1));
+    if random.chance(30) && !others.is_empty() {
+        let (a, b) = random.pick(others);
+        last.insert(random.below(terms + 1), same(a, b));
+    }
+    [joins, vec![multiplies, set.iter().map(|&(a, b)| same(a, b)).collect(), last, vec![apart(1, 1)]]].concat()
+}
