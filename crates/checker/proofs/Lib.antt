@@ -1,4 +1,4 @@
-pub mod Marks
+pub mod Splits
 pub mod Grounds
 pub mod Stepping
 pub mod Walking

@@ -1,3 +1,3 @@
 pub mod Answers
-pub mod Table
+pub mod Terms
 pub mod Steps

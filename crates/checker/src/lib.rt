@@ -8,6 +8,7 @@ ghost use Rattle.sheet.specs.Format.{mostLots, sameSign, lotCount, recordCount}
 ghost use Rattle.sheet.specs.Inner.{HasConditions};
 ghost use Rattle.sheet.specs.Conditions.{termsFrom};
 ghost use Rattle.equality.specs.Meaning.{anyTerm};
+ghost use Rattle.equality.specs.Node.{marked};
 ghost use mathlib.Core.List.{List};
 ghost use Rattle.store.specs.Records.{splitRecord, groundRecord, recordAt, recordLength, mostNodes};
 ghost use Rattle.store.specs.Code.{HasPlace};
@@ -17,8 +18,8 @@ ghost use Rattle.levels.specs.Levels.{Walkable};
 ghost use Rattle.checker.specs.Answers.{checkedAnswer, PassedExactly, PassedMeans};
 ghost use Rattle.checker.specs.Steps.{Counted, Rest, WalkRest, stepAs, noneLeft, GoesOn};
 ghost use Rattle.classes.specs.Maps.{ClassMap};
-ghost use Rattle.checker.specs.Table.{tableLength, Unmarked, stamped, allows, allowsClasses};
-use classes::ENTRIES;
+ghost use Rattle.marks.specs.Marks.{Room, Marks, markAt};
+ghost use Rattle.checker.specs.Terms.{allows, allowsClasses};
 use path::Split;
 use sheet::Condition;
 use sheet::Header;
@@ -29,12 +30,10 @@ use sheet::Verdict;
 use store::NodeNumber;
 use store::NodeRecord;
 
-// The numbers of the longest path, the levels under its splits and above them all, and the cells of the table.
+// The numbers of the longest path, and the levels under its splits and above them all.
 const PATH_LENGTH: usize = path::SPLIT_LENGTH * MOST_SPLITS;
 
 const LEVELS_LENGTH: usize = MOST_SPLITS + 1;
-
-const TABLE_LENGTH: usize = ENTRIES * ENTRIES;
 
 // The checker's answer.
 pub enum CheckAnswer {
@@ -59,21 +58,19 @@ pub struct Position {
 // The most splits above a record.
 const MOST_SPLITS: usize = 1024;
 
-// Stamps a value on the two cells of each pair of the path that is set apart, by the classes of its lots.
-fn stamp(table: &mut [u8], path: &[u32], depth: usize, lots: &[u8], value: u8)
-    requires { ⌜ (length (now table) ≡ tableLength) × PathWithin (now path) depth × ClassMap (now lots) ⌝ }
-    ensures { λ _. ⌜ now (table .exit) ≡ stamped value (now (lots .entry)) (decisionsOf (pathOf (now (path .entry)) depth)) (now (table .entry)) ⌝ }
+// The table of the path: the classes of each pair that it sets apart are marked, and no others.
+fn stamp(table: &mut [u8], path: &[u32], depth: usize, lots: &[u8])
+    requires { ⌜ Room (now table) 0 × PathWithin (now path) depth × ClassMap (now lots) ⌝ }
+    ensures { λ _. ⌜ Marks (now (table .exit)) 0 (now (lots .entry)) (decisionsOf (pathOf (now (path .entry)) depth)) ⌝ }
 {
+    marks::clear(table, 0);
     let mut i: usize = 0;
     while i < depth {
         let pair = path::pair_at(path, i);
         if !pair.same {
             let a = pair.a.0 as usize;
             let b = pair.b.0 as usize;
-            let x = lots[a] as usize;
-            let y = lots[b] as usize;
-            table[ENTRIES * x + y] = value;
-            table[ENTRIES * y + x] = value;
+            marks::mark(table, 0, lots[a], lots[b]);
         }
         i += 1;
     }
@@ -81,11 +78,11 @@ fn stamp(table: &mut [u8], path: &[u32], depth: usize, lots: &[u8], value: u8)
 
 // Whether a term of a sign, whose lots have the classes x and y, is true or open.
 fn allows(table: &[u8], sign: u8, x: u8, y: u8) -> bool
-    requires { ⌜ (length (now table) ≡ tableLength) × (x ≤ mostLots) × (y ≤ mostLots) ⌝ }
-    ensures { λ r. ⌜ r ≡ allowsClasses (now (table .entry)) (eqb sign sameSign) x y ⌝ }
+    requires { ⌜ Room (now table) 0 × (x ≤ mostLots) × (y ≤ mostLots) ⌝ }
+    ensures { λ r. ⌜ r ≡ allowsClasses (markAt (now (table .entry)) 0) (eqb sign sameSign) x y ⌝ }
 {
     if sign == SAME {
-        x == y || table[ENTRIES * (x as usize) + (y as usize)] != 1
+        x == y || !marks::is_marked(table, 0, x, y)
     } else {
         x != y
     }
@@ -93,8 +90,8 @@ fn allows(table: &[u8], sign: u8, x: u8, y: u8) -> bool
 
 // Whether every term of the chain from a record on is false.
 fn all_false(sheet: &[u8], m: u16, lots: &[u8], table: &[u8], head: Record) -> bool
-    requires { ⌜ HasConditions (now sheet) m × ClassMap (now lots) × (length (now table) ≡ tableLength) × (head .0 ≤ recordCount (now sheet)) ⌝ }
-    ensures { λ r. ⌜ r ≡ not (anyTerm (allows (now (lots .entry)) (now (table .entry))) (termsFrom (now (sheet .entry)) (head .0))) ⌝ }
+    requires { ⌜ HasConditions (now sheet) m × ClassMap (now lots) × Room (now table) 0 × (head .0 ≤ recordCount (now sheet)) ⌝ }
+    ensures { λ r. ⌜ r ≡ not (anyTerm (allows (now (lots .entry)) (markAt (now (table .entry)) 0)) (termsFrom (now (sheet .entry)) (head .0))) ⌝ }
 {
     let mut at = head;
     while at.0 != 0 {
@@ -109,23 +106,53 @@ fn all_false(sheet: &[u8], m: u16, lots: &[u8], table: &[u8], head: Record) -> b
     true
 }
 
-// The first record of the chain whose term is not an "apart" term that is false, or 0. An "apart" term is false exactly if its lots share a class: no mark
-// decides it.
-fn past_apart(sheet: &[u8], m: u16, lots: &[u8], head: Record) -> Record
-    requires { ⌜ HasConditions (now sheet) m × ClassMap (now lots) × (head .0 ≤ recordCount (now sheet)) ⌝ }
+// The latest split of the path that is set apart between the classes x and y: how many splits stand above and with it, or 0 where there is none. A pair
+// whose classes have another exclusive or is not one: one test that nearly always tells is quicker than the four.
+fn latest_between(path: &[u32], depth: usize, lots: &[u8], x: u8, y: u8) -> usize
+    requires { ⌜ PathWithin (now path) depth × ClassMap (now lots) ⌝ }
+    ensures within { λ r. ⌜ r ≤ depth ⌝ }
+    ensures marked { λ r. ⌜ not (eqb r 0) ≡ marked (now (lots .entry)) (decisionsOf (pathOf (now (path .entry)) depth)) x y ⌝ }
+{
+    let both = x ^ y;
+    let mut left = depth;
+    while 0 < left {
+        let pair = path::pair_at(path, left - 1);
+        if !pair.same {
+            let u = lots[pair.a.0 as usize];
+            let v = lots[pair.b.0 as usize];
+            if u ^ v == both && classes::between(x, y, u, v) {
+                return left;
+            }
+        }
+        left -= 1;
+    }
+    left
+}
+
+// The first record of the chain whose term is not seen to be false, or 0: for a "same" term whose lots share no class the splits are walked over, as long as
+// all that were walked and these are no more than `marks::WALKED`.
+fn past_false(sheet: &[u8], m: u16, path: &[u32], depth: usize, lots: &[u8], head: Record) -> Record
+    requires { ⌜ HasConditions (now sheet) m × PathWithin (now path) depth × ClassMap (now lots) × (head .0 ≤ recordCount (now sheet)) ⌝ }
     ensures within { λ r. ⌜ r .0 ≤ recordCount (now (sheet .entry)) ⌝ }
-    ensures rest { λ r. ⌜ ((table : List ℕ) → anyTerm (allows (now (lots .entry)) table) (termsFrom (now (sheet .entry)) (head .0))
-        ≡ anyTerm (allows (now (lots .entry)) table) (termsFrom (now (sheet .entry)) (r .0))) ⌝ }
+    ensures rest { λ r. ⌜ anyTerm (allows (now (lots .entry)) (marked (now (lots .entry)) (decisionsOf (pathOf (now (path .entry)) depth)))) (termsFrom (now (sheet .entry)) (head .0))
+        ≡ anyTerm (allows (now (lots .entry)) (marked (now (lots .entry)) (decisionsOf (pathOf (now (path .entry)) depth)))) (termsFrom (now (sheet .entry)) (r .0)) ⌝ }
 {
     let mut at = head;
+    let mut walked = depth;
     while at.0 != 0 {
         let t = sheet::chain::term_at(sheet, at, m);
+        let x = lots[t.a.0 as usize];
+        let y = lots[t.b.0 as usize];
         if t.sign == SAME {
-            return at;
-        }
-        let a = t.a.0 as usize;
-        let b = t.b.0 as usize;
-        if lots[a] != lots[b] {
+            if x == y || marks::WALKED < walked {
+                return at;
+            }
+            let left = latest_between(path, depth, lots, x, y);
+            if left == 0 {
+                return at;
+            }
+            walked += depth - left;
+        } else if x != y {
             return at;
         }
         at = t.next;
@@ -133,8 +160,8 @@ fn past_apart(sheet: &[u8], m: u16, lots: &[u8], head: Record) -> Record
     at
 }
 
-// Whether every term of a condition is false under the path. The pairs that the path sets apart are marked in the table for the test alone, from the first
-// term on that a mark may decide: it costs the condition's terms and, with such a term, the path's splits, not their product.
+// Whether every term of a condition is false under the path. The first terms are told by a walk over the splits, and where many are walked the pairs that the
+// path sets apart are marked in the table for the others: it costs the condition's terms and the path's splits, not their product.
 fn ground_passes(
     sheet: &[u8],
     m: u16,
@@ -145,20 +172,17 @@ fn ground_passes(
     table: &mut [u8],
     c: Condition,
 ) -> bool
-    requires { ⌜ HasConditions (now sheet) m × (1 ≤ c .0) × (c .0 ≤ m) × Walkable (now path) (now maps) (now levels) depth × Unmarked (now table) ⌝ }
+    requires { ⌜ HasConditions (now sheet) m × (1 ≤ c .0) × (c .0 ≤ m) × Walkable (now path) (now maps) (now levels) depth × Room (now table) 0 ⌝ }
     ensures passes { λ r. ⌜ r ≡ not (groundFails (decisionsOf (pathOf (now (path .entry)) depth)) (named (now (sheet .entry)) (c .0))) ⌝ }
-    ensures table { λ r. ⌜ Unmarked (now (table .exit)) ⌝ }
 {
     let lots = levels::top(maps, levels, depth);
     let head = sheet::format::head_at(sheet, c);
-    let at = past_apart(sheet, m, lots, head);
+    let at = past_false(sheet, m, path, depth, lots, head);
     if at.0 == 0 {
         return true;
     }
-    stamp(table, path, depth, lots, 1);
-    let passes = all_false(sheet, m, lots, table, at);
-    stamp(table, path, depth, lots, 0);
-    passes
+    stamp(table, path, depth, lots);
+    all_false(sheet, m, lots, table, at)
 }
 
 // After a ground: the nearest split still in its same branch is turned, if its next is the following record; with no such split the list must end.
@@ -223,12 +247,11 @@ fn ground_step(
     at: Position,
     c: Condition,
 ) -> Step
-    requires { ⌜ HasConditions (now sheet) m × Walkable (now path) (now maps) (now levels) (at .depth) × (at .number ≤ mostNodes) × Unmarked (now table) ⌝ }
+    requires { ⌜ HasConditions (now sheet) m × Walkable (now path) (now maps) (now levels) (at .depth) × (at .number ≤ mostNodes) × Room (now table) 0 ⌝ }
     ensures walk { λ v. ⌜ ((walkRest : WalkRest) (rest : Rest) → at .last ≡ noneLeft rest
         → walkRecord (now (sheet .entry)) walkRest rest (at .number) (pathOf (now (path .entry)) (at .depth)) (groundRecord (c .0))
         ≡ stepAs walkRest (at .number + 1) (now (path .exit)) v) ⌝ }
     ensures path { λ v. ⌜ GoesOn (now (path .exit)) (now (maps .entry)) (now (levels .exit)) v ⌝ }
-    ensures table { λ v. ⌜ Unmarked (now (table .exit)) ⌝ }
 {
     if c.0 == 0 || m < c.0 {
         return Step::Refuses(11, at.number);
@@ -250,12 +273,11 @@ fn record_step(
     table: &mut [u8],
     at: Position,
 ) -> Step
-    requires { ⌜ Counted (now sheet) counts × HasPlace (now list) (at .number) × Walkable (now path) (now maps) (now levels) (at .depth) × (at .number ≤ mostNodes) × Unmarked (now table) ⌝ }
+    requires { ⌜ Counted (now sheet) counts × HasPlace (now list) (at .number) × Walkable (now path) (now maps) (now levels) (at .depth) × (at .number ≤ mostNodes) × Room (now table) 0 ⌝ }
     ensures walk { λ v. ⌜ ((walkRest : WalkRest) (rest : Rest) → at .last ≡ noneLeft rest
         → walkRecord (now (sheet .entry)) walkRest rest (at .number) (pathOf (now (path .entry)) (at .depth)) (recordAt (now (list .entry)) (at .number))
         ≡ stepAs walkRest (at .number + 1) (now (path .exit)) v) ⌝ }
     ensures path { λ v. ⌜ GoesOn (now (path .exit)) (now (maps .exit)) (now (levels .exit)) v ⌝ }
-    ensures table { λ v. ⌜ Unmarked (now (table .exit)) ⌝ }
 {
     let number = NodeNumber(at.number);
     let node = store::read(list, number);
@@ -289,7 +311,7 @@ fn walk(
     levels: &mut [u8],
     table: &mut [u8],
 ) -> Verdict
-    requires { ⌜ Counted (now sheet) counts × (length (now list) / recordLength ≤ mostNodes) × Walkable (now path) (now maps) (now levels) 0 × Unmarked (now table) ⌝ }
+    requires { ⌜ Counted (now sheet) counts × (length (now list) / recordLength ≤ mostNodes) × Walkable (now path) (now maps) (now levels) 0 × Room (now table) 0 ⌝ }
     ensures { λ v. ⌜ v ≡ walkVerdict (now (sheet .entry)) (now (list .entry)) ⌝ }
 {
     let count = (list.len() / store::RECORD_LENGTH) as u32;
@@ -322,7 +344,7 @@ fn check_list(sheet: &[u8], counts: Header, list: &[u8]) -> Verdict
     let mut path = [0u32; PATH_LENGTH];
     let mut maps = [0u8; levels::MAPS_LENGTH];
     let mut levels = [0u8; LEVELS_LENGTH];
-    let mut table = [0u8; TABLE_LENGTH];
+    let mut table = [0u8; marks::TABLE_LENGTH];
     levels::start(&mut maps);
     walk(
         sheet,

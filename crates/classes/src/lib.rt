@@ -69,7 +69,7 @@ pub fn join_entries(lots: &mut [u8], x: u8, y: u8)
 }
 
 // Of two lots, whose classes are u and v, one is in class x and one in class y.
-fn between(x: u8, y: u8, u: u8, v: u8) -> bool
+pub fn between(x: u8, y: u8, u: u8, v: u8) -> bool
     ensures { λ r. ⌜ r ≡ (eqb u x && eqb v y || eqb u y && eqb v x) ⌝ }
 {
     u == x && v == y || u == y && v == x

@@ -1,7 +1,7 @@
 -- `checker::all_false`: every term that the loop has passed is false by the classes and the table; it leaves at the first that isn't.
 use borrow.Author.Needs.{needs}
-use Prim.Native.Nat.{_≤_}
-use mathlib.Core.Bool.{not}
+use Prim.Native.Nat.{ℕ, _≤_}
+use mathlib.Core.Bool.{Bool, not}
 use mathlib.Core.Path.{_≡_, sym, ap, _∙_}
 use native.Mathlib.Omega.{arith}
 use lib.Dec.{eqb}
@@ -13,19 +13,24 @@ use Rattle.sheet.proofs.Accepted.{SoundRecord, sound, has-record}
 use Rattle.sheet.proofs.ChainEnds.{rest-shorter}
 use Rattle.equality.specs.Node.{classOf}
 use Rattle.equality.proofs.Passing.{Passing, passing-start, found, passing-next, ended}
-use Rattle.checker.specs.Table.{allows, allowsClasses}
-use Rattle.checker.proofs.Marks.{allows-term}
+use Rattle.marks.specs.Marks.{markAt}
+use Rattle.checker.specs.Terms.{allows, allowsClasses}
+use Rattle.checker.proofs.Grounds.{allows-term}
 use Rattle.checker.proofs.all_false.Statement.{statement}
 use Rattle.checker.proofs.all_false.Tie as tie
 
 abbrev Inv-loop : tie.InvT-loop
-Inv-loop sheet m lots table at₀ at = Passing (allows lots table) sheet (at₀ .0) (at .0)
+Inv-loop sheet m lots table at₀ at = Passing (allows lots (markAt table 0)) sheet (at₀ .0) (at .0)
 
 abbrev μ-loop : tie.MeasureT-loop
 μ-loop sheet m lots table at₀ at = length (recordsFrom sheet (at .0))
 
 loop-holds : tie.Need-loop-holds Inv-loop μ-loop
 loop-holds c = passing-start (allows _ _) _ _ (c .before .before .before .pre .3)
+
+-- What the table says of two classes.
+abbrev marks : tie.Start Inv-loop μ-loop → ℕ → ℕ → Bool
+marks start = markAt (start .args .table .now) 0
 
 -- The start of a turn's walk.
 abbrev begun : tie.At-loop Inv-loop μ-loop → tie.Start Inv-loop μ-loop
@@ -94,13 +99,13 @@ outset c = begun (tested (turn c))
 
 -- and the answer is whether the record's term is true or open.
 answer : (c : tie.After-allows Inv-loop μ-loop)
-    → allows (outset c .args .lots .now) (outset c .args .table .now) (termAt (outset c .args .sheet .now) (tested (turn c) .loop .at .0)) ≡ c .allows .result
+    → allows (outset c .args .lots .now) (marks (outset c)) (termAt (outset c .args .sheet .now) (tested (turn c) .loop .at .0)) ≡ c .allows .result
 answer c =
     let start = outset c in
     let s = start .args .sheet .now in
     let r = tested (turn c) .loop .at .0 in
-    allows-term (start .args .lots .now) (start .args .table .now) (signAt s r) (firstLotAt s r) (secondLotAt s r)
-    ∙ ap (λ (t : Term). allowsClasses (start .args .table .now) (eqb (t .sign) sameSign) (classOf (start .args .lots .now) (t .a .0)) (classOf (start .args .lots .now) (t .b .0))) (sym (asked c .term-at .ensures))
+    allows-term (start .args .lots .now) (marks start) (signAt s r) (firstLotAt s r) (secondLotAt s r)
+    ∙ ap (λ (t : Term). allowsClasses (marks start) (eqb (t .sign) sameSign) (classOf (start .args .lots .now) (t .a .0)) (classOf (start .args .lots .now) (t .b .0))) (sym (asked c .term-at .ensures))
     ∙ sym (c .allows .ensures)
 
 returns : tie.Need-returns Inv-loop μ-loop
@@ -110,7 +115,7 @@ returns c =
     let l = tested (turn a) in
     ap not
     (sym
-    (found (allows (start .args .lots .now) (start .args .table .now)) (start .args .sheet .now) (start .pre .0 .accepted) (start .args .head .0) (l .loop .at .0) (l .loop .inv)
+    (found (allows (start .args .lots .now) (marks start)) (start .args .sheet .now) (start .pre .0 .accepted) (start .args .head .0) (l .loop .at .0) (l .loop .inv)
     (record-number (turn a)) (answer a ∙ c .if2 .taken)))
 
 loop-less : tie.Need-loop-less Inv-loop μ-loop
@@ -126,7 +131,7 @@ loop-again c =
     let start = outset a in
     let l = tested (turn a) in
     rw (asked a .term-at .ensures)
-    (passing-next (allows (start .args .lots .now) (start .args .table .now)) (start .args .sheet .now) (start .pre .0 .accepted) (start .args .head .0) (l .loop .at .0) (l .loop .inv)
+    (passing-next (allows (start .args .lots .now) (marks start)) (start .args .sheet .now) (start .pre .0 .accepted) (start .args .head .0) (l .loop .at .0) (l .loop .inv)
     (record-number (turn a)) (answer a ∙ c .before .if2 .left))
 
 returns-2 : tie.Need-returns-2 Inv-loop μ-loop
@@ -135,7 +140,7 @@ returns-2 c =
     let start = begun l in
     ap not
     (sym
-    (ended (allows (start .args .lots .now) (start .args .table .now)) (start .args .sheet .now) (start .pre .0 .accepted) (start .args .head .0) (l .loop .at .0) (l .loop .inv) (c .if1 .left)))
+    (ended (allows (start .args .lots .now) (marks start)) (start .args .sheet .now) (start .pre .0 .accepted) (start .args .head .0) (l .loop .at .0) (l .loop .inv) (c .if1 .left)))
 
 pub all-false-spec : {M : Type 1} → statement M
 all-false-spec =

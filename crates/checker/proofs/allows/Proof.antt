@@ -4,24 +4,17 @@ use borrow.Author.Tests.{eq-eqb, ne-eqb}
 use Rattle.checker.proofs.allows.Statement.{statement}
 use Rattle.checker.proofs.allows.Tie as tie
 
-mul-result : tie.Need-mul-result
-mul-result c = search needs
-
-add-result : tie.Need-add-result
-add-result c = search needs
-
-shared-slice-read-result : tie.Need-shared-slice-read-result
-shared-slice-read-result c = search needs
+is-marked-requires : tie.Need-is-marked-requires
+is-marked-requires c κs = search needs
 
 returns : tie.Need-returns
 returns c = simp (eq-eqb _ _ (c .before .if1 .taken), eq-eqb _ _ (c .if2 .taken))
 
 returns-2 : tie.Need-returns-2
-returns-2 c = simp (eq-eqb _ _ (c .before .before .if1 .taken), ne-eqb _ _ (c .before .if2 .left))
+returns-2 c = simp (eq-eqb _ _ (c .before .before .if1 .taken), ne-eqb _ _ (c .before .if2 .left), c .is-marked .ensures)
 
 returns-3 : tie.Need-returns-3
 returns-3 c = simp (ne-eqb _ _ (c .if1 .left))
 
 pub allows-spec : {M : Type 1} → statement M
-allows-spec =
-    tie.close (tie.spec mul-result add-result shared-slice-read-result returns returns-2 returns-3)
+allows-spec = tie.close (tie.spec is-marked-requires returns returns-2 returns-3)

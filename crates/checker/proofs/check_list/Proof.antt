@@ -1,10 +1,8 @@
--- `checker::check_list`: no splits, every lot alone, and no marks to begin with.
+-- `checker::check_list`: no splits, and every lot alone, to begin with.
 use borrow.Author.Needs.{needs}
 use mathlib.Core.Path.{refl}
 use native.Mathlib.Omega.{arith}
 use Rattle.levels.proofs.Leveling.{walkable-none}
-use Rattle.checker.specs.Table.{tableLength}
-use Rattle.checker.proofs.Marks.{zeros}
 use Rattle.checker.proofs.check_list.Statement.{statement}
 use Rattle.checker.proofs.check_list.Tie as tie
 
@@ -31,7 +29,7 @@ walk-requires c κs =
     let started = c .before .before .before .before .before in
     let start = started .before .before .before .before in
     let rows = started .start in
-    (start .pre .0, start .pre .1, walkable-none _ _ _ (omega arith) (rows .kept .0) (omega arith) refl (rows .ensures), record { size = refl; zeros = zeros tableLength })
+    (start .pre .0, start .pre .1, walkable-none _ _ _ (omega arith) (rows .kept .0) (omega arith) refl (rows .ensures), omega arith)
 
 returns : tie.Need-returns
 returns c = search needs

@@ -1,57 +1,60 @@
--- `checker::ground_passes`: past the terms that no mark decides, the table is stamped with 1, the terms that are left are tested by it, and stamped with 0 it
--- has no marks again.
+-- `checker::ground_passes`: past the terms that are seen to be false, the terms that are left are tested by a table with the path's marks.
 use borrow.Author.Needs.{needs}
 use Prim.Native.Nat.{ℕ, _≤_}
 use mathlib.Core.Bool.{not}
 use mathlib.Core.List.{List, []}
-use mathlib.Core.Path.{_≡_, sym, ap, subst, _∙_}
+use mathlib.Core.Path.{_≡_, refl, sym, ap, subst, _∙_}
 use native.Mathlib.Omega.{arith}
-use Rattle.sheet.specs.Format.{conditionCount, headAt}
+use Rattle.sheet.specs.Format.{conditionCount, recordCount, headAt}
 use Rattle.sheet.specs.Conditions.{termsFrom}
 use Rattle.sheet.proofs.Accepted.{sound}
 use Rattle.sheet.proofs.ChainEnds.{terms-end}
 use Rattle.equality.specs.Meaning.{anyTerm}
-use Rattle.equality.specs.Node.{Decisions, classes}
-use Rattle.equality.proofs.Some.{some-any, any-false}
-use Rattle.refutation.specs.Refutation.{decisionsOf, groundFails, named}
-use Rattle.path.specs.Paths.{pathOf}
-use Rattle.path.proofs.Within.{within-small}
+use Rattle.equality.specs.Node.{Decisions, classes, marked}
+use Rattle.equality.proofs.Some.{any-false}
+use Rattle.refutation.specs.Refutation.{groundFails, named}
 use Rattle.levels.proofs.Leveling.{top-classes, top-level}
 use Rattle.classes.specs.Maps.{ClassMap}
-use Rattle.checker.specs.Table.{Unmarked, stamped, allows}
-use Rattle.checker.proofs.Marks.{marks-cleared}
-use Rattle.classes.proofs.Maps.{classes-within, class-map}
-use Rattle.checker.proofs.Grounds.{ground-agrees}
+use Rattle.classes.proofs.Maps.{class-map}
+use Rattle.marks.specs.Marks.{Marks, markAt}
+use Rattle.marks.proofs.Marks.{marks-at}
+use Rattle.checker.specs.Terms.{allows}
+use Rattle.checker.proofs.Splits.{decided}
+use Rattle.checker.proofs.Grounds.{stands, terms-agree, ground-terms}
 use Rattle.checker.proofs.ground_passes.Statement.{statement}
 use Rattle.checker.proofs.ground_passes.Tie as tie
 
--- The decisions of the path at the start, and the table with their marks.
-abbrev decided : tie.Start → Decisions
-decided start = decisionsOf (pathOf (start .args .path .now) (start .args .depth))
+module _ (start : tie.Start) where
+  abbrev s : List ℕ
+  s = start .args .sheet .now
 
-abbrev marks : tie.Start → List ℕ
-marks start = stamped 1 (classes (decided start)) (decided start) (start .args .table .now)
+  -- The decisions of the path.
+  abbrev ds : Decisions
+  ds = decided (start .args .path .now) (start .args .depth)
 
--- The condition is one of the sheet's.
-counted : (start : tie.Start) → start .args .c .0 ≤ conditionCount (start .args .sheet .now)
-counted start = omega (arith, start .pre .2, start .pre .0 .counted)
+  -- The condition is one of the sheet's, and so is its head.
+  counted : start .args .c .0 ≤ conditionCount s
+  counted = omega (arith, start .pre .2, start .pre .0 .counted)
+
+  head-within : headAt s (start .args .c .0) ≤ recordCount s
+  head-within = sound s (start .pre .0 .accepted) .heads (start .args .c .0) (start .pre .1) counted
 
 -- ---- the places before the table is stamped
 
 abbrev begun : tie.After-top → tie.Start
 begun c = c .before .before .before .before .before .before
 
-abbrev mapped : tie.After-past-apart → tie.After-top
+abbrev mapped : tie.After-past-false → tie.After-top
 mapped c = c .before .before
 
-abbrev outset : tie.After-past-apart → tie.Start
+abbrev outset : tie.After-past-false → tie.Start
 outset c = begun (mapped c)
 
 top-requires : tie.Need-top-requires
 top-requires c κs = let w = c .before .before .before .before .before .pre .3 in (w .rows, omega (arith, w .places, w .deep), top-level w)
 
 -- The map at the path's level has its classes.
-map-is : (c : tie.After-top) → c .top .result .now ≡ classes (decided (begun c))
+map-is : (c : tie.After-top) → c .top .result .now ≡ classes (ds (begun c))
 map-is c = c .top .ensures ∙ top-classes (begun c .pre .3)
 
 is-map : (c : tie.After-top) → ClassMap (c .top .result .now)
@@ -60,91 +63,75 @@ is-map c = subst ClassMap (sym (map-is c)) (class-map _)
 head-at-requires : tie.Need-head-at-requires
 head-at-requires c κs =
     let start = begun c in
-    omega (arith, start .pre .1, counted start, sound (start .args .sheet .now) (start .pre .0 .accepted) .header .whole)
+    omega (arith, start .pre .1, counted start, sound (s start) (start .pre .0 .accepted) .header .whole)
 
-past-apart-requires : tie.Need-past-apart-requires
-past-apart-requires c κs =
-    let start = begun (c .before) in (
-      start .pre .0,
-      is-map (c .before),
-      rw (c .head-at .ensures) (sound (start .args .sheet .now) (start .pre .0 .accepted) .heads (start .args .c .0) (start .pre .1) (counted start)),
-    )
+past-false-requires : tie.Need-past-false-requires
+past-false-requires c κs =
+    let start = begun (c .before) in
+    (start .pre .0, start .pre .3 .within, is-map (c .before), rw (c .head-at .ensures) (head-within start))
 
--- What is left of the chain decides the ground, by the path's classes and its marks. Here alone the terms of a chain are taken for a condition.
-left-over : (c : tie.After-past-apart)
-    → anyTerm (allows (classes (decided (outset c))) (marks (outset c))) (termsFrom (outset c .args .sheet .now) (c .past-apart .result .0))
-    ≡ groundFails (decided (outset c)) (named (outset c .args .sheet .now) (outset c .args .c .0))
+-- The terms that are left of the chain decide the ground.
+left-over : (c : tie.After-past-false)
+    → anyTerm (stands (ds (outset c))) (termsFrom (s (outset c)) (c .past-false .result .0))
+    ≡ groundFails (ds (outset c)) (named (s (outset c)) (outset c .args .c .0))
 left-over c =
     let start = outset c in
-    let s = start .args .sheet .now in
-    let ds = decided start in
+    let ok = start .pre .0 .accepted in
     let lots = map-is (mapped c) in
     let head = c .before .head-at .ensures in
-    sym (λ i. anyTerm (allows (lots i) (marks start)) (termsFrom s (c .past-apart .result .0)))
-    ∙ sym (c .past-apart .ensures .1 (marks start))
-    ∙ (λ i. anyTerm (allows (lots i) (marks start)) (termsFrom s (head i)))
-    ∙ sym (some-any (allows (classes ds) (marks start)) (termsFrom s (headAt s (start .args .c .0))))
-    ∙ ground-agrees ds (within-small (start .pre .3 .within)) (start .args .table .now) (start .pre .4) s (start .pre .0 .accepted) (start .args .c .0) (start .pre .1) (counted start)
+    let agree = terms-agree (ds start) (s start) ok (marked (classes (ds start)) (ds start)) (λ x y hx hy n. refl) in
+    sym (agree (c .past-false .result .0) (c .past-false .ensures .0))
+    ∙ sym (λ i. anyTerm (allows (lots i) (marked (lots i) (ds start))) (termsFrom (s start) (c .past-false .result .0)))
+    ∙ sym (c .past-false .ensures .1)
+    ∙ (λ i. anyTerm (allows (lots i) (marked (lots i) (ds start))) (termsFrom (s start) (head i)))
+    ∙ agree (headAt (s start) (start .args .c .0)) (head-within start)
+    ∙ ground-terms (ds start) (s start) ok (start .args .c .0) (start .pre .1) (counted start)
 
 returns : tie.Need-returns
 returns c =
     let left = c .before .before in
     let start = outset left in
-    let s = start .args .sheet .now in
-    let allowed = allows (classes (decided start)) (marks start) in (
-      ap not
-          (sym (sym (left-over left)
-          ∙ ap (λ (r : ℕ). anyTerm allowed (termsFrom s r)) (c .if1 .taken)
-          ∙ ap (anyTerm allowed) (terms-end s)
-          ∙ any-false allowed [] tt)),
-      start .pre .4,
-    )
+    ap not
+    (sym
+    (sym (left-over left)
+    ∙ ap (λ (r : ℕ). anyTerm (stands (ds start)) (termsFrom (s start) r)) (c .if1 .taken)
+    ∙ ap (anyTerm (stands (ds start))) (terms-end (s start))
+    ∙ any-false (stands (ds start)) [] tt))
 
 stamp-requires : tie.Need-stamp-requires
 stamp-requires c κs =
     let left = c .before .before .before in
     let start = outset left in
-    (start .pre .4 .size, start .pre .3 .within, is-map (mapped left))
+    (start .pre .4, start .pre .3 .within, is-map (mapped left))
 
 -- ---- the places after it is
 
-abbrev left-at : tie.After-stamp → tie.After-past-apart
+abbrev left-at : tie.After-stamp → tie.After-past-false
 left-at c = c .before .before .before .before
 
 all-false-requires : tie.Need-all-false-requires
 all-false-requires c κs =
-    let stamped-at = c .before .before .before in
-    let left = left-at stamped-at in
+    let marked-at = c .before .before .before in
+    let left = left-at marked-at in
     let start = outset left in
-    (start .pre .0, is-map (mapped left), stamped-at .stamp .kept .0 ∙ start .pre .4 .size, left .past-apart .ensures .0)
-
-stamp-requires-2 : tie.Need-stamp-requires-2
-stamp-requires-2 c κs =
-    let stamped-at = c .before .before .before .before .before in
-    let left = left-at stamped-at in
-    let start = outset left in
-    (stamped-at .stamp .kept .0 ∙ start .pre .4 .size, start .pre .3 .within, is-map (mapped left))
+    (start .pre .0, is-map (mapped left), omega (arith, marked-at .stamp .kept .0, start .pre .4), left .past-false .ensures .0)
 
 same-length : tie.Need-same-length
 same-length c = search needs
 
 returns-2 : tie.Need-returns-2
 returns-2 c =
-    let cleared-at = c .before .before in
-    let tested-at = cleared-at .before .before in
-    let stamped-at = tested-at .before .before .before .before in
-    let left = left-at stamped-at in
+    let marked-at = c .before .before .before .before in
+    let left = left-at marked-at in
     let start = outset left in
-    let ds = decided start in
-    let table = start .args .table .now in
+    let table = marked-at .stamp .last .0 in
     let lots = map-is (mapped left) in
-    let stamps = stamped-at .stamp .ensures ∙ ap (λ (l : List ℕ). stamped 1 l ds table) lots in (
-      tested-at .all-false .ensures
-          ∙ (λ i. not (anyTerm (allows (lots i) (stamps i)) (termsFrom (start .args .sheet .now) (left .past-apart .result .0))))
-          ∙ ap not (left-over left),
-      subst Unmarked (sym (cleared-at .stamp2 .ensures ∙ (λ i. stamped 0 (lots i) ds (stamps i))))
-          (marks-cleared (classes ds) (classes-within ds) ds (within-small (start .pre .3 .within)) table (start .pre .4)),
-    )
+    let marks = subst (λ (l : List ℕ). Marks table 0 l (ds start)) lots (marked-at .stamp .ensures) in
+    c .all-false .ensures
+    ∙ ap not
+    ((λ i. anyTerm (allows (lots i) (markAt table 0)) (termsFrom (s start) (left .past-false .result .0)))
+    ∙ terms-agree (ds start) (s start) (start .pre .0 .accepted) (markAt table 0) (marks-at marks) (left .past-false .result .0) (left .past-false .ensures .0)
+    ∙ left-over left)
 
 pub ground-passes-spec : {M : Type 1} → statement M
 ground-passes-spec =
@@ -152,10 +139,9 @@ ground-passes-spec =
     (tie.spec
     top-requires
     head-at-requires
-    past-apart-requires
+    past-false-requires
     returns
     stamp-requires
     all-false-requires
-    stamp-requires-2
     same-length
     returns-2)

@@ -55,7 +55,7 @@ returns c =
     (λ w. condition-none (s start) (named start) (w .taken))
     (λ w. condition-above (s start) (named start) (omega (arith, ltb-true (start .args .m) (named start) (w .2 .taken), start .pre .0 .counted)))
     (c .if1 .came) in
-    ((λ walkRest rest left. condition-out (s start) walkRest rest (r start) (above start) (named start) out), (tt, start .pre .3))
+    ((λ walkRest rest left. condition-out (s start) walkRest rest (r start) (above start) (named start) out), tt)
 
 ground-passes-requires : tie.Need-ground-passes-requires
 ground-passes-requires c κs =
@@ -79,8 +79,8 @@ returns-2 c =
     let start = begun else in (
       (λ walkRest rest left.
           not-ground (s start) walkRest rest (r start) (above start) (named start) (within else)
-          (not-false _ (sym (tested .ground-passes .ensures .0) ∙ not-true _ (c .if3 .taken)))),
-      (tt, tested .ground-passes .ensures .1),
+          (not-false _ (sym (tested .ground-passes .ensures) ∙ not-true _ (c .if3 .taken)))),
+      tt,
     )
 
 after-ground-requires : tie.Need-after-ground-requires
@@ -107,9 +107,9 @@ returns-3 c =
     let start = begun else in (
       (λ walkRest rest left.
           grounded (s start) walkRest rest (r start) (above start) (named start) (within else)
-          (not-true _ (sym (tested .ground-passes .ensures .0) ∙ not-false _ (passed .if3 .left)))
+          (not-true _ (sym (tested .ground-passes .ensures) ∙ not-false _ (passed .if3 .left)))
           ∙ after .after-ground .ensures .0 walkRest rest left),
-      (after .after-ground .ensures .1 (start .args .maps .now) (start .pre .1), tested .ground-passes .ensures .1),
+      after .after-ground .ensures .1 (start .args .maps .now) (start .pre .1),
     )
 
 pub ground-step-spec : {M : Type 1} → statement M

@@ -80,7 +80,7 @@ returns c =
       (λ walkRest rest left.
           record-is (split-read node) walkRest rest _ (node .node .given .1)
           ∙ step .split-step .ensures .0 (start .args .sheet .now) (start .pre .0 .lots) walkRest rest),
-      (step .split-step .ensures .1, start .pre .4),
+      step .split-step .ensures .1,
     )
 
 same-length-4 : tie.Need-same-length-4
@@ -100,18 +100,18 @@ returns-2 c =
     let step = c .before .before .before .before .before .before in
     let node = step .before .before .before .before .before .before in (
       (λ walkRest rest left. record-is (ground-read node) walkRest rest _ (node .node2 .given .1) ∙ step .ground-step .ensures .0 walkRest rest left),
-      (step .ground-step .ensures .1 .0, step .ground-step .ensures .1 .1),
+      step .ground-step .ensures .1,
     )
 
 returns-3 : tie.Need-returns-3
 returns-3 c =
     let read = c .before .before in
-    ((λ walkRest rest left. record-is read walkRest rest _ (c .enum-told .given .1)), (tt, begun read .pre .4))
+    ((λ walkRest rest left. record-is read walkRest rest _ (c .enum-told .given .1)), tt)
 
 returns-4 : tie.Need-returns-4
 returns-4 c =
     let read = c .before .before in
-    ((λ walkRest rest left. record-is read walkRest rest _ (c .enum-told2 .given .1)), (tt, begun read .pre .4))
+    ((λ walkRest rest left. record-is read walkRest rest _ (c .enum-told2 .given .1)), tt)
 
 pub record-step-spec : {M : Type 1} → statement M
 record-step-spec =

@@ -1,5 +1,5 @@
--- `checker::walk`: at record r the verdict is that of the walk over what is left, below the path's splits; the levels are those of the path, and the table has
--- no marks.
+-- `checker::walk`: at record r the verdict is that of the walk over what is left, below the path's splits; the levels are those of the path, and no slice has
+-- changed its length.
 use borrow.Author.Needs.{needs}
 use Prim.Native.Nat.{ℕ, _+_, _-_, _/_, _≤_}
 use mathlib.Core.List.{List}
@@ -10,7 +10,6 @@ use Rattle.store.specs.Records.{recordLength, recordsOf}
 use Rattle.refutation.specs.Refutation.{walkFrom, walkVerdict}
 use Rattle.levels.specs.Levels.{Walkable}
 use Rattle.checker.specs.declared.Step.{Step}
-use Rattle.checker.specs.Table.{Unmarked}
 use Rattle.checker.specs.Steps.{stepAs, GoesOn}
 use Rattle.checker.proofs.Walking.{Walking, walking-start, walking-step, walking-on, walking-end}
 use Rattle.checker.proofs.walk.Statement.{statement}
@@ -22,7 +21,7 @@ Inv-loop sheet counts list path₀ maps₀ levels₀ table₀ count depth₀ r�
     × (r ≤ count + 1)
     × Walking sheet list path depth r
     × Walkable path maps levels depth
-    × Unmarked table
+    × (length table ≡ length table₀)
     × (length path ≡ length path₀)
     × (length levels ≡ length levels₀)
 
@@ -35,7 +34,7 @@ cast-count c = search needs
 loop-holds : tie.Need-loop-holds Inv-loop μ-loop
 loop-holds c =
     let start = c .before .before .before .before .before .before in
-    (omega arith, omega arith, walking-start (start .args .sheet .now) (start .args .list .now) (start .args .path .now), start .pre .2, start .pre .3, refl, refl)
+    (omega arith, omega arith, walking-start (start .args .sheet .now) (start .args .list .now) (start .args .path .now), start .pre .2, refl, refl, refl)
 
 -- ---- a turn
 
@@ -61,7 +60,7 @@ record-step-requires c κs =
     let turn = c .before .before .before .before in
     let start = begun turn in
     let inv = turn .before .loop .inv in
-    (start .pre .0, record { least = inv .0; whole = omega (arith, numbered turn) }, inv .3, omega (arith, numbered turn, start .pre .1), inv .4)
+    (start .pre .0, record { least = inv .0; whole = omega (arith, numbered turn) }, inv .3, omega (arith, numbered turn, start .pre .1), omega (arith, inv .4, start .pre .3))
 
 -- The turn in which a step was made, and what the step leaves: the path, the maps and the levels.
 module _ (c : tie.After-record-step Inv-loop μ-loop) where
@@ -142,8 +141,8 @@ loop-again c =
       omega arith,
       omega (arith, numbered t),
       walking-on (s t) (list t) (path step) (told .0 .0) (r t) (stepped step _ (told .1)),
-      subst (GoesOn (path step) (maps step) (levels step)) (told .1) (step .record-step .ensures .1 .0),
-      step .record-step .ensures .1 .1,
+      subst (GoesOn (path step) (maps step) (levels step)) (told .1) (step .record-step .ensures .1),
+      step .record-step .kept .1 .1 .1 .1 .1 .1 .0 ∙ inv .4,
       step .record-step .kept .1 .1 .1 .0 ∙ inv .5,
       step .record-step .kept .1 .1 .1 .1 .1 .0 ∙ inv .6,
     )
