@@ -1,13 +1,12 @@
 -- A loop over the path's splits, from the root on or from the latest: what a split adds to the decisions above it, and to the marks.
 use Prim.Native.Nat.{ℕ, suc}
-use mathlib.Core.Bool.{Bool, true, false, _&&_, _||_}
+use mathlib.Core.Bool.{Bool, true, false, _||_}
 use mathlib.Core.List.{List, [], _∷_}
-use mathlib.Core.Path.{_≡_, refl, sym, ap, ap₂, _∙_}
-use borrow.Author.Tests.{eqb-true}
-use lib.Bits.{bitXor, xor-comm}
-use lib.Dec.{eqb}
+use mathlib.Core.Path.{_≡_, refl, sym, ap, _∙_}
+use lib.Bits.{bitXor}
 use Rattle.sheet.specs.Conditions.{Term, same, apart}
 use Rattle.equality.specs.Node.{Decisions, classOf, between, marked}
+use Rattle.classes.proofs.Exclusive.{neither-way}
 use Rattle.refutation.specs.Refutation.{decisionsOf}
 use Rattle.path.specs.declared.Pair.{Pair}
 use Rattle.path.specs.Paths.{splitIn, pathOf, decisionOf}
@@ -62,22 +61,4 @@ module _ (cs l : List ℕ) (x y : ℕ) where
 
     -- They are not where their classes have another exclusive or than x and y.
     pub passed-by-xor : pair .same ≡ false → (bitXor (classOf cs (pair .a .0)) (classOf cs (pair .b .0)) ≡ bitXor x y → ⊥) → markedBy n ≡ markedBy i
-    passed-by-xor q other = passed q (neither (classOf cs (pair .a .0)) (classOf cs (pair .b .0)) other)
-      where
-        neither : (u v : ℕ) → (bitXor u v ≡ bitXor x y → ⊥) → (eqb u x && eqb v y || eqb u y && eqb v x) ≡ false
-        neither u v other = go (eqb u x) (eqb v y) (eqb u y) (eqb v x) refl refl refl refl
-          where
-            straight : eqb u x ≡ true → eqb v y ≡ true → bitXor u v ≡ bitXor x y
-            straight p q = ap₂ bitXor (eqb-true u x p) (eqb-true v y q)
-
-            crossed : eqb u y ≡ true → eqb v x ≡ true → bitXor u v ≡ bitXor x y
-            crossed p q = ap₂ bitXor (eqb-true u y p) (eqb-true v x q) ∙ xor-comm y x
-
-            go : (p q r t : Bool) → eqb u x ≡ p → eqb v y ≡ q → eqb u y ≡ r → eqb v x ≡ t → (p && q || r && t) ≡ false
-            go true true r t ep eq er et = absurd (other (straight ep eq))
-            go true false true true ep eq er et = absurd (other (crossed er et))
-            go false q true true ep eq er et = absurd (other (crossed er et))
-            go true false true false ep eq er et = refl
-            go true false false t ep eq er et = refl
-            go false q true false ep eq er et = refl
-            go false q false t ep eq er et = refl
+    passed-by-xor q other = passed q (neither-way x y (classOf cs (pair .a .0)) (classOf cs (pair .b .0)) other)

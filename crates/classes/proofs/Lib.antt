@@ -1,5 +1,6 @@
 pub mod Maps
 pub mod Path
+pub mod Exclusive
 mod Rewriting
 mod Marks
 pub mod Joins

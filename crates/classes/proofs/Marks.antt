@@ -1,15 +1,14 @@
 -- A loop over the pairs, from the latest on: what the latest of those left says of the marks.
 use Prim.Native.Nat.{ℕ, zero, suc, _+_, _*_, _-_, _≤_, _<_}
-use mathlib.Core.Bool.{Bool, true, false, _&&_, _||_}
+use mathlib.Core.Bool.{Bool, true, false, _||_}
 use mathlib.Core.List.{List}
-use mathlib.Core.Path.{_≡_, refl, ap₂, _∙_}
+use mathlib.Core.Path.{_≡_, refl, _∙_}
 use native.Mathlib.Omega.{arith}
-use borrow.Author.Tests.{eqb-true}
-use lib.Bits.{bitXor, xor-comm}
-use lib.Dec.{eqb}
+use lib.Bits.{bitXor}
 use lib.ListN.{getD}
 use Rattle.equality.specs.Node.{classOf, between, marked}
 use Rattle.classes.specs.Pairs.{setApart}
+use Rattle.classes.proofs.Exclusive.{neither-way}
 
 module _ (cs pairs : List ℕ) (x y : ℕ) where
   -- One of the lots of pair n is in class x, and one in class y.
@@ -35,25 +34,7 @@ module _ (cs pairs : List ℕ) (x y : ℕ) where
   pub passed-by-xor : (left : ℕ) → 0 < left
       → (bitXor (classOf cs (getD pairs (2 * (left - 1)) 0)) (classOf cs (getD pairs (2 * (left - 1) + 1) 0)) ≡ bitXor x y → ⊥)
       → markedBy left ≡ markedBy (left - 1)
-  passed-by-xor left h other = passed left h (neither (classOf cs (getD pairs (2 * (left - 1)) 0)) (classOf cs (getD pairs (2 * (left - 1) + 1) 0)) other)
-    where
-      neither : (u v : ℕ) → (bitXor u v ≡ bitXor x y → ⊥) → (eqb u x && eqb v y || eqb u y && eqb v x) ≡ false
-      neither u v other = go (eqb u x) (eqb v y) (eqb u y) (eqb v x) refl refl refl refl
-        where
-          straight : eqb u x ≡ true → eqb v y ≡ true → bitXor u v ≡ bitXor x y
-          straight p q = ap₂ bitXor (eqb-true u x p) (eqb-true v y q)
-
-          crossed : eqb u y ≡ true → eqb v x ≡ true → bitXor u v ≡ bitXor x y
-          crossed p q = ap₂ bitXor (eqb-true u y p) (eqb-true v x q) ∙ xor-comm y x
-
-          go : (p q r t : Bool) → eqb u x ≡ p → eqb v y ≡ q → eqb u y ≡ r → eqb v x ≡ t → (p && q || r && t) ≡ false
-          go true true r t ep eq er et = absurd (other (straight ep eq))
-          go true false true true ep eq er et = absurd (other (crossed er et))
-          go false q true true ep eq er et = absurd (other (crossed er et))
-          go true false true false ep eq er et = refl
-          go true false false t ep eq er et = refl
-          go false q true false ep eq er et = refl
-          go false q false t ep eq er et = refl
+  passed-by-xor left h other = passed left h (neither-way x y (classOf cs (getD pairs (2 * (left - 1)) 0)) (classOf cs (getD pairs (2 * (left - 1) + 1) 0)) other)
 
   pub none-left : (left : ℕ) → left ≤ 0 → markedBy left ≡ false
   unfolding setApart marked

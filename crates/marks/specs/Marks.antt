@@ -60,3 +60,7 @@ pub record Outside (before after : List ℕ) (at : ℕ) : Type 0 where
 pub record MarkedToo (before after : List ℕ) (at x y : ℕ) : Type 0 where
   pub bits : (u v : ℕ) → u < v → v ≤ mostLots → bitAt after at u v ≡ ((eqb x u && eqb y v || eqb x v && eqb y u) || bitAt before at u v)
   pub outside : Outside before after at
+
+-- So many pairs are walked over for false terms before a table is marked (`WALKED`). No answer depends on it.
+abbrev pub walkedMost : ℕ
+walkedMost = 64

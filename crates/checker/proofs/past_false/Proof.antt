@@ -17,6 +17,7 @@ use Rattle.sheet.proofs.ChainEnds.{rest-shorter}
 use Rattle.equality.specs.Meaning.{anyTerm}
 use Rattle.equality.specs.Node.{classOf, marked}
 use Rattle.equality.proofs.Passing.{Passing, passing-start, passing-next, left-decides}
+use Rattle.marks.specs.Marks.{walkedMost}
 use Rattle.checker.specs.Terms.{allows, allowsClasses}
 use Rattle.checker.proofs.Splits.{decided}
 use Rattle.checker.proofs.Grounds.{allows-term}
@@ -112,13 +113,13 @@ returns-2 c = leaves (tested (turn (c .before .before .before .before .before)))
 sub-walked : tie.Need-sub-walked Inv-loop μ-loop
 sub-walked c = search needs
 
--- Up to here no more than 64 were walked over, and the path's splits are fewer than its numbers: their sum fits.
+-- Up to here no more than `WALKED` were walked over, and the path's splits are fewer than its numbers: their sum fits.
 add-walked : tie.Need-add-walked Inv-loop μ-loop
 add-walked c =
     let few = c .before .before in
     let l = tested (turn (few .before .before .before)) in
     let start = begun l in
-    record { fits = omega (arith, ltb-false 64 (l .loop .walked) (few .if4 .left), start .pre .1 .within, start .good) }
+    record { fits = omega (arith, ltb-false walkedMost (l .loop .walked) (few .if4 .left), start .pre .1 .within, start .good) }
 
 returns-3 : tie.Need-returns-3 Inv-loop μ-loop
 returns-3 c = leaves (tested (turn (c .before .before)))

@@ -18,6 +18,7 @@ use Rattle.sheet.proofs.ChainEnds.{rest-shorter}
 use Rattle.equality.specs.Node.{Decisions}
 use Rattle.classes.specs.Pairs.{Represents}
 use Rattle.classes.proofs.Path.{marked-says}
+use Rattle.marks.specs.Marks.{walkedMost}
 use Rattle.node.specs.Place.{PassesTo, ResumesWithin}
 use Rattle.node.proofs.Opening.{marksOf, closedBy, sign-same, sign-apart, Opening, opening-start, opening-next, opening-passes, none-open, open-here, open-leaves}
 use Rattle.node.proofs.Resuming.{rest-decides, rest-passes, later-resumes, apart-resumes}
@@ -109,7 +110,7 @@ split-on-requires c κs = tt
 add-walked : tie.Need-add-walked Inv-loop μ-loop
 add-walked c =
     let turn = c .before .before .before .before .before .before .before .before .before in
-    omega (arith, ltb-true (turn .before .before .before .loop .walked) 64 (turn .if2 .taken), begun turn .pre .1 .room, begun turn .good .1 .1 .1 .0)
+    omega (arith, ltb-true (turn .before .before .before .loop .walked) walkedMost (turn .if2 .taken), begun turn .pre .1 .room, begun turn .good .1 .1 .1 .0)
 
 -- The loop goes on at the record's next:
 next-of : (c : Read) → nextAt (bytes (turn c)) (place (turn c)) ≡ c .term-at .result .next .0
