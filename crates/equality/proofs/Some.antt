@@ -38,6 +38,12 @@ unfolding anyTerm someTerm
 some-any q [] = refl
 some-any q (t ∷ ts) = refl
 
+-- A condition some of whose terms is such and such has such a term, whatever a condition with no term counts for.
+pub some-found : (q : Term → Bool) (ts : List Term) → anyTerm q ts ≡ true → someTerm q ts ≡ true
+unfolding anyTerm someTerm
+some-found q [] e = absurd (false≢true e)
+some-found q (t ∷ ts) e = e
+
 module _ (p : Term → Bool) where
   pub any-none : (ts : List Term) → anyTerm p ts ≡ false → All (λ t. p t ≡ false) ts
   unfolding anyTerm

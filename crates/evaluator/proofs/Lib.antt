@@ -1,3 +1,3 @@
-mod Numbered
+mod Lots
 mod Scanning
 mod Entry

@@ -15,10 +15,10 @@ use Rattle.sheet.specs.Checks.{Accepted}
 use Rattle.sheet.specs.Conditions.{Term, same, apart, termOf, termAt, termsFrom, conditionAt, conditions}
 use Rattle.sheet.proofs.Conditions.{conditions-length}
 use Rattle.sheet.proofs.ChainEnds.{terms-step}
-use Rattle.equality.specs.Meaning.{holds, anyTerm, someTerm, meetsCondition}
+use Rattle.equality.specs.Meaning.{holds, anyTerm, meetsCondition}
 use Rattle.equality.specs.Node.{Decisions, merged, classOf, classes, takes, taken, split, nodeOf, node}
 use Rattle.buffers.proofs.Lists.{all-map}
-use Rattle.equality.proofs.Some.{any-false, any-none, any-here}
+use Rattle.equality.proofs.Some.{any-false, any-none, any-here, some-found}
 use Rattle.equality.proofs.Node.{taken-values, passed-by-classes}
 use Rattle.equality.proofs.Rule.{taken-at, OpenAt, open-at}
 use Rattle.equality.proofs.Classes.{joinedTo}
@@ -40,12 +40,6 @@ module _ (p q : Term → Bool) (also : (t : Term) → p t ≡ true → q t ≡ t
       go : (b : Bool) → anyTerm q ts ≡ b → anyTerm q ts ≡ true
       go true e = e
       go false e = absurd (false≢true (sym (any-false p ts (all-map not-either ts (any-none q ts e))) ∙ h))
-
--- A condition some of whose terms is such and such has such a term, whatever a condition with no term counts for.
-pub some-found : (q : Term → Bool) (ts : List Term) → anyTerm q ts ≡ true → someTerm q ts ≡ true
-unfolding anyTerm someTerm
-some-found q [] e = absurd (false≢true e)
-some-found q (t ∷ ts) e = e
 
 -- The classes meet a settled condition.
 pub settled-met : (cs : List ℕ) (ts : List Term) → settledBy cs ts ≡ true → meetsCondition (classOf cs) ts ≡ true

@@ -12,7 +12,7 @@ use Rattle.equality.specs.Meaning.{anyTerm, holds, meetsCondition}
 use Rattle.equality.specs.Evaluator.{numberIn}
 use Rattle.equality.proofs.Some.{some-any}
 use Rattle.equality.proofs.Passing.{Passing, passing-start, found, passing-next, ended}
-use Rattle.evaluator.proofs.Numbered.{lots-numbered}
+use Rattle.evaluator.proofs.Lots.{lots-numbered}
 use Rattle.evaluator.proofs.is_met.Statement.{statement}
 use Rattle.evaluator.proofs.is_met.Tie as tie
 

@@ -17,14 +17,14 @@ use Rattle.sheet.proofs.Accepted.{SoundRecord, sound, has-record}
 use Rattle.sheet.proofs.ChainEnds.{rest-shorter}
 use Rattle.equality.specs.Node.{Decisions, classes, classOf, takes, taken}
 use Rattle.equality.specs.Meaning.{holds, meetsCondition}
-use Rattle.equality.proofs.Some.{some-any}
+use Rattle.equality.proofs.Some.{some-any, some-found}
 use Rattle.equality.proofs.Passing.{Passing, passing-start, found, passing-next, ended}
 use Rattle.equality.proofs.Node.{lowestTaken}
 use Rattle.sheet.proofs.Scanning.{Scanning, scanning-start, found-here, scanning-next, none-found}
 use Rattle.node.proofs.Scanning.{taken-goes, taken-by-map, term-flag}
 use Rattle.node.specs.Settled.{settledBy, Settled, Later}
 use Rattle.node.specs.Place.{ResumesWithin}
-use Rattle.node.proofs.Settling.{some-found, settled-met, found-sharing, sharing-flag, later-none, settled-next}
+use Rattle.node.proofs.Settling.{settled-met, found-sharing, sharing-flag, later-none, settled-next}
 use Rattle.node.proofs.Resuming.{head-resumes}
 use Rattle.node.proofs.scan.Statement.{statement}
 use Rattle.node.proofs.scan.Tie as tie
