@@ -10,13 +10,13 @@ use Rattle.buffers.specs.Lists.{All}
 use Rattle.buffers.proofs.Lists.{all-at}
 use Rattle.equality.specs.Node.{Decisions}
 use Rattle.equality.specs.Search.{sameTerms, allSameTerms}
-use Rattle.equality.specs.Opens.{closed, openCount, opens, allOpens}
+use Rattle.equality.specs.Opens.{closed, openCount, openIn, openInAll, opens, allOpens}
 use Rattle.equality.proofs.Steps.{open-not-closed, same-closed, apart-closed, same-closes, apart-closes}
 use Rattle.equality.proofs.Rule.{SplitAt}
 
 -- They are at most the "same" terms.
 pub opens-same : (ds : Decisions) (ts : List Term) → opens ds ts ≤ sameTerms ts
-unfolding opens sameTerms
+unfolding openIn sameTerms
 opens-same ds [] = omega arith
 opens-same ds (same a b ∷ ts) = go (closed ds a b) (opens-same ds ts)
   where
@@ -26,7 +26,7 @@ opens-same ds (same a b ∷ ts) = go (closed ds a b) (opens-same ds ts)
 opens-same ds (apart a b ∷ ts) = omega (arith, opens-same ds ts)
 
 pub opens-all-same : (ds : Decisions) (tss : List (List Term)) → allOpens ds tss ≤ allSameTerms tss
-unfolding allOpens allSameTerms
+unfolding openInAll allSameTerms
 opens-all-same ds [] = omega arith
 opens-all-same ds (ts ∷ tss) = omega (arith, opens-same ds ts, opens-all-same ds tss)
 
@@ -37,7 +37,7 @@ abbrev pub Further : Decisions → Decisions → Type 0
 Further ds ds′ = (u v : ℕ) → closed ds u v ≡ true → closed ds′ u v ≡ true
 
 module _ (ds ds′ : Decisions) (further : Further ds ds′) where
-  count-falls : (t : Term) → openCount ds′ t ≤ openCount ds t
+  count-falls : (t : Term) → openCount (closed ds′) t ≤ openCount (closed ds) t
   count-falls (apart a b) = omega arith
   count-falls (same a b) = go (closed ds a b) (closed ds′ a b) refl refl
     where
@@ -47,12 +47,12 @@ module _ (ds ds′ : Decisions) (further : Further ds ds′) where
       go false false ep eq = omega arith
 
   pub opens-fall : (ts : List Term) → opens ds′ ts ≤ opens ds ts
-  unfolding opens
+  unfolding openIn
   opens-fall [] = omega arith
   opens-fall (t ∷ ts) = omega (arith, count-falls t, opens-fall ts)
 
   pub all-opens-fall : (tss : List (List Term)) → allOpens ds′ tss ≤ allOpens ds tss
-  unfolding allOpens
+  unfolding openInAll
   all-opens-fall [] = omega arith
   all-opens-fall (ts ∷ tss) = omega (arith, opens-fall ts, all-opens-fall tss)
 
@@ -60,13 +60,13 @@ module _ (ds ds′ : Decisions) (further : Further ds ds′) where
   module _ (a b : ℕ) (open′ : closed ds a b ≡ false) (closed′ : closed ds′ a b ≡ true) where
     pub opens-fewer : (before after : List Term)
         → opens ds′ (before ++ same a b ∷ after) < opens ds (before ++ same a b ∷ after)
-    unfolding opens
+    unfolding openIn
     opens-fewer [] after = simp (open′, closed′) (omega (arith, opens-fall after))
     opens-fewer (t ∷ before) after = omega (arith, count-falls t, opens-fewer before after)
 
     pub all-opens-fewer : (front back : List (List Term)) (before after : List Term)
         → allOpens ds′ (front ++ (before ++ same a b ∷ after) ∷ back) < allOpens ds (front ++ (before ++ same a b ∷ after) ∷ back)
-    unfolding allOpens
+    unfolding openInAll
     all-opens-fewer [] back before after = omega (arith, opens-fewer before after, all-opens-fall back)
     all-opens-fewer (ts ∷ front) back before after =
         omega (arith, opens-fall ts, all-opens-fewer front back before after)

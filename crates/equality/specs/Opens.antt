@@ -22,14 +22,22 @@ closedTerm ds (apart a b) = closed ds a b
 
 -- ---- how many "same" terms are open
 
-abbrev pub openCount : Decisions → Term → ℕ
-openCount ds (same a b) = cond (closed ds a b) 0 1
-openCount ds (apart a b) = 0
+-- By a test of when a pair is closed: a term, the terms of a condition, those of all conditions.
+abbrev pub openCount : (ℕ → ℕ → Bool) → Term → ℕ
+openCount shut (same a b) = cond (shut a b) 0 1
+openCount shut (apart a b) = 0
 
-unfoldable pub opens : Decisions → List Term → ℕ
-opens ds [] = 0
-opens ds (t ∷ ts) = openCount ds t + opens ds ts
+unfoldable pub openIn : (ℕ → ℕ → Bool) → List Term → ℕ
+openIn shut [] = 0
+openIn shut (t ∷ ts) = openCount shut t + openIn shut ts
 
-unfoldable pub allOpens : Decisions → List (List Term) → ℕ
-allOpens ds [] = 0
-allOpens ds (ts ∷ tss) = opens ds ts + allOpens ds tss
+unfoldable pub openInAll : (ℕ → ℕ → Bool) → List (List Term) → ℕ
+openInAll shut [] = 0
+openInAll shut (ts ∷ tss) = openIn shut ts + openInAll shut tss
+
+-- By the decisions of a path.
+abbrev pub opens : Decisions → List Term → ℕ
+opens ds ts = openIn (closed ds) ts
+
+abbrev pub allOpens : Decisions → List (List Term) → ℕ
+allOpens ds tss = openInAll (closed ds) tss

@@ -1,20 +1,20 @@
 -- The path of a visit, as its map and its pairs represent it: what each branch of a split makes of it, and the open "same" terms that fall.
 use Prim.Native.Nat.{ℕ, zero, suc, _+_, _*_, _-_, _≤_, _<_}
-use mathlib.Core.Bool.{Bool, cond, _||_}
+use mathlib.Core.Bool.{Bool, _||_}
 use mathlib.Core.List.{List, [], _∷_}
-use mathlib.Core.Path.{_≡_, refl, sym, ap, ap₂, _∙_}
+use mathlib.Core.Path.{_≡_, refl, sym, ap, ap₂, fun-ext, _∙_}
 use native.Mathlib.Omega.{arith}
 use lib.Dec.{eqb}
 use lib.ListN.{length, getD, set, take, replicate, length-set, length-replicate}
 use lib.Seq.{length-take-le}
 use Rattle.sheet.specs.Format.{mostLots, conditionCount}
 use Rattle.sheet.specs.Checks.{Accepted}
-use Rattle.sheet.specs.Conditions.{Term, same, apart, conditionAt, conditions}
+use Rattle.sheet.specs.Conditions.{same, apart, conditionAt, conditions}
 use Rattle.equality.specs.Node.{Decisions, classes, merged, classOf, marked, takes, taken, split, node}
 use Rattle.equality.proofs.Small.{conditions-small}
 use Rattle.equality.proofs.Least.{least}
 use Rattle.equality.proofs.Node.{taken-apart}
-use Rattle.equality.specs.Opens.{Small, closed, opens, allOpens}
+use Rattle.equality.specs.Opens.{Small, openInAll, allOpens}
 use Rattle.equality.proofs.Rule.{split-at}
 use Rattle.equality.proofs.Opens.{split-all, same-fewer, apart-fewer}
 use Rattle.classes.specs.declared.Classes.{Classes}
@@ -34,19 +34,6 @@ use Rattle.search.proofs.Limits.{opens-within, pairs-enough, pairs-coun
 
 -- ---- the open "same" terms, counted by the map and the pairs: the measure of the visits
 
--- How many "same" terms are not closed, by a test of when a pair is.
-abbrev openBy : (ℕ → ℕ → Bool) → Term → ℕ
-openBy shut (same a b) = cond (shut a b) 0 1
-openBy shut (apart a b) = 0
-
-unfoldable openTerms : (ℕ → ℕ → Bool) → List Term → ℕ
-openTerms shut [] = 0
-openTerms shut (t ∷ ts) = openBy shut t + openTerms shut ts
-
-unfoldable openInAll : (ℕ → ℕ → Bool) → List (List Term) → ℕ
-openInAll shut [] = 0
-openInAll shut (ts ∷ tss) = openTerms shut ts + openInAll shut tss
-
 -- The lots share an entry, or their entries are marked apart by the pairs.
 abbrev shutBy : List ℕ → List ℕ → ℕ → ℕ → ℕ → Bool
 shutBy lots pairs count a b =
@@ -54,18 +41,6 @@ shutBy lots pairs count a b =
 
 pub openByMap : List ℕ → List ℕ → List ℕ → ℕ → ℕ
 openByMap s lots pairs count = openInAll (shutBy lots pairs count) (conditions s)
-
-module _ (shut : ℕ → ℕ → Bool) (ds : Decisions) (agrees : (a b : ℕ) → shut a b ≡ closed ds a b) where
-  open-agrees : (ts : List Term) → openTerms shut ts ≡ opens ds ts
-  unfolding openTerms opens
-  open-agrees [] = refl
-  open-agrees (same a b ∷ ts) = ap₂ _+_ (ap (λ (p : Bool). cond p 0 1) (agrees a b)) (open-agrees ts)
-  open-agrees (apart a b ∷ ts) = ap (λ (n : ℕ). 0 + n) (open-agrees ts)
-
-  all-agrees : (tss : List (List Term)) → openInAll shut tss ≡ allOpens ds tss
-  unfolding openInAll allOpens
-  all-agrees [] = refl
-  all-agrees (ts ∷ tss) = ap₂ _+_ (open-agrees ts) (all-agrees tss)
 
 -- ---- the path
 
@@ -128,9 +103,10 @@ module _ {s : List ℕ} {map : Classes} {pairs : List ℕ} {count : ℕ} {ds : D
   pub counted : openByMap s (map .lots) pairs count ≡ allOpens ds (conditions s)
   unfolding openByMap
   counted =
-      all-agrees (shutBy (map .lots) pairs count) ds
-      (λ a b. ap₂ _||_ (ap₂ eqb (smallest-says (st .represents) a) (smallest-says (st .represents) b)) (marked-says (st .represents) a b))
-      (conditions s)
+      ap (λ (shut : ℕ → ℕ → Bool). openInAll shut (conditions s))
+      (fun-ext
+      (λ a. fun-ext
+      (λ b. ap₂ _||_ (ap₂ eqb (smallest-says (st .represents) a) (smallest-says (st .represents) b)) (marked-says (st .represents) a b))))
 
   pub pairs-within : PairsWithin pairs count
   pairs-within = represented-within (st .represents) (st .small) (omega (arith, st .room))
