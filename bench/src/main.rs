@@ -32,6 +32,7 @@ use std::process::ExitCode;
 const USAGE: &str = "measure all [quick]       compare, time, count instructions, run z3 and the stack test, write data, plots and tables
 measure sizes             count the instructions of a node against the sizes of a sheet, and write its table
 measure report            write the plots and tables again from the data
+measure row SERVICE KEY   time one input alone, and write nothing
 measure compare           compare alone
 measure stack             run the deepest search and check on the program's own stack
 measure once SERVICE KEY CONTENDER     one call, for counting instructions";
@@ -43,6 +44,7 @@ fn main() -> ExitCode {
         ["all", "quick"] => report::measure(rounds::Plan { rounds: 3, batch: 0.02 }),
         ["sizes"] => report::measure_sizes(),
         ["report"] => report::write(),
+        ["row", service, key] => report::time_row(service, key),
         ["compare"] => report::compare_all(),
         ["stack"] => stack::on_own(),
         ["once", service, key, contender] => instructions::once(service, key, contender),

@@ -51,6 +51,17 @@ fn timed(plan: Plan, job: &Job) -> Vec<rounds::Taken> {
     rounds::take(plan, &mut contenders.map(call).collect::<Vec<_>>())
 }
 
+/// Nanoseconds a unit of one input by each contender, and the product's time divided by the contender's.
+pub fn time_row(service: &str, key: &str) {
+    let service = Service::ALL.into_iter().find(|known| known.word() == service).expect("a service: search, check or read");
+    let job = jobs::one(service, key).expect("the key of a job");
+    let taken = timed(Plan { rounds: 9, batch: 0.05 }, &job);
+    for (name, taken) in service.contenders().into_iter().zip(taken) {
+        let time = taken.time.times(1e9 / job.units as f64);
+        println!("{name:<16} {:>10.1} {:>6.2}", time.least, taken.ratio.middle);
+    }
+}
+
 fn measure_job(plan: Plan, job: &Job) -> Vec<Row> {
     let taken = timed(plan, job);
     let counts = instructions::of(job);
