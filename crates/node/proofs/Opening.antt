@@ -123,6 +123,19 @@ pub record Opening (marks : ℕ → ℕ → Bool) (s : List ℕ) (from at : ℕ)
 pub opening-start : (marks : ℕ → ℕ → Bool) (s : List ℕ) (from : ℕ) → from ≤ recordCount s → Opening marks s from from
 opening-start marks s from h = record { within = h; passed = []; closed = tt; place = refl }
 
+-- What a loop passes from where another has left follows what that one has passed.
+pub opening-through : {marks : ℕ → ℕ → Bool} {s : List ℕ} {from between at : ℕ} → Opening marks s from between → Opening marks s between at → Opening marks s from at
+opening-through {marks} {s} {at = at} k l =
+    record {
+      within = l .within;
+      passed = k .passed ++ l .passed;
+      closed = all-both (λ t. closedBy marks t ≡ true) (k .passed) (l .passed) (k .closed) (l .closed);
+      place =
+          k .place
+          ∙ ap (λ (ts : List Term). k .passed ++ ts) (l .place)
+          ∙ sym (append-assoc (k .passed) (l .passed) (termsFrom s at));
+    }
+
 module _ (marks : ℕ → ℕ → Bool) (s : List ℕ) (ok : Accepted s) (from at : ℕ) (l : Opening marks s from at) where
   stepped : 1 ≤ at → termsFrom s from ≡ (l .passed ++ termAt s at ∷ []) ++ termsFrom s (nextAt s at)
   stepped h =

@@ -171,16 +171,23 @@ fn first_unmarked(
     ensures leaves { λ r. ⌜ ((ds : Decisions) → now (lots .entry) ≡ classes ds → Marks (now (pairs .entry)) table (now (lots .entry)) ds → ResumesWithin (now (sheet .entry)) (condition .0) (from .0) ds → Leaves (now (sheet .entry)) r ds) ⌝ }
 {
     let mut at = from;
-    while at.0 != 0 {
-        let t = sheet::chain::term_at(sheet, at, m);
-        if t.sign == SAME {
-            let a = t.a.0 as usize;
-            let b = t.b.0 as usize;
-            if !marks::is_marked(pairs, table, lots[a], lots[b]) {
-                return split_on(condition, t);
+    'chain: while at.0 != 0 {
+        loop {
+            let following = at.0 + 1;
+            let t = sheet::chain::term_at(sheet, at, m);
+            if t.sign == SAME {
+                let a = t.a.0 as usize;
+                let b = t.b.0 as usize;
+                if !marks::is_marked(pairs, table, lots[a], lots[b]) {
+                    return split_on(condition, t);
+                }
             }
+            if t.next.0 != following {
+                at = t.next;
+                continue 'chain;
+            }
+            at = Record(following);
         }
-        at = t.next;
     }
     Node::Ground(condition)
 }
