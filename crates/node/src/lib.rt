@@ -6,8 +6,8 @@ ghost use Rattle.sheet.specs.Format.{recordCount};
 ghost use Rattle.sheet.specs.Conditions.{conditions};
 ghost use Rattle.equality.specs.Node.{Decisions, classes, node};
 ghost use Rattle.classes.specs.Maps.{ClassMap};
-ghost use Rattle.classes.specs.Pairs.{Untouched, Represents};
-ghost use Rattle.marks.specs.Marks.{Room, Marks};
+ghost use Rattle.classes.specs.Pairs.{Represents};
+ghost use Rattle.marks.specs.Marks.{tableLength, Room, Marks, Outside};
 ghost use Rattle.node.specs.declared.Place.the-variants.{Within};
 ghost use Rattle.sheet.specs.Inner.{HasConditions};
 ghost use Rattle.node.specs.Settled.{Settled, Later, ClearedAbove};
@@ -171,6 +171,7 @@ fn first_unmarked(
     ensures leaves { λ r. ⌜ ((ds : Decisions) → now (lots .entry) ≡ classes ds → Marks (now (pairs .entry)) table (now (lots .entry)) ds → ResumesWithin (now (sheet .entry)) (condition .0) (from .0) ds → Leaves (now (sheet .entry)) r ds) ⌝ }
 {
     let mut at = from;
+    // Records of a chain mostly follow each other in the sheet. Within such a run the next record is known before its number is read, and need not be waited for.
     'chain: while at.0 != 0 {
         loop {
             let following = at.0 + 1;
@@ -193,7 +194,7 @@ fn first_unmarked(
 }
 
 // The same by the pairs, from which the table behind them is marked for this node alone: it costs the pairs and the terms, not their product. The map is
-// taken by value, so that the nodes that come without a table do not copy it.
+// taken by value, so that nodes that need no table do not copy it.
 fn by_table(
     sheet: &[u8],
     m: u16,
@@ -206,7 +207,7 @@ fn by_table(
     requires { ⌜ HasConditions (now sheet) m × Markable map (now pairs) count × (from .0 ≤ recordCount (now sheet)) ⌝ }
     ensures node { λ r. ⌜ ((ds : Decisions) → Represents map (now (pairs .entry)) count ds → ResumesWithin (now (sheet .entry)) (condition .0) (from .0) ds → nodeAs r ≡ node ds (conditions (now (sheet .entry)))) ⌝ }
     ensures leaves { λ r. ⌜ ((ds : Decisions) → Represents map (now (pairs .entry)) count ds → ResumesWithin (now (sheet .entry)) (condition .0) (from .0) ds → Leaves (now (sheet .entry)) r ds) ⌝ }
-    ensures untouched { λ r. ⌜ Untouched (now (pairs .entry)) (now (pairs .exit)) count ⌝ }
+    ensures outside { λ r. ⌜ Outside (now (pairs .entry)) (now (pairs .exit)) (length (now (pairs .entry)) - tableLength) ⌝ }
 {
     let table = pairs.len() - marks::TABLE_LENGTH;
     marks::stamp_pairs(pairs, table, &map.lots, count);
@@ -226,7 +227,7 @@ fn first_open(
     requires { ⌜ HasConditions (now sheet) m × Markable map (now pairs) count × (from .0 ≤ recordCount (now sheet)) ⌝ }
     ensures node { λ r. ⌜ ((ds : Decisions) → Represents map (now (pairs .entry)) count ds → ResumesWithin (now (sheet .entry)) (condition .0) (from .0) ds → nodeAs r ≡ node ds (conditions (now (sheet .entry)))) ⌝ }
     ensures leaves { λ r. ⌜ ((ds : Decisions) → Represents map (now (pairs .entry)) count ds → ResumesWithin (now (sheet .entry)) (condition .0) (from .0) ds → Leaves (now (sheet .entry)) r ds) ⌝ }
-    ensures untouched { λ r. ⌜ Untouched (now (pairs .entry)) (now (pairs .exit)) count ⌝ }
+    ensures outside { λ r. ⌜ Outside (now (pairs .entry)) (now (pairs .exit)) (length (now (pairs .entry)) - tableLength) ⌝ }
 {
     let mut at = from;
     let mut walked: usize = 0;
@@ -250,7 +251,7 @@ fn first_open(
 }
 
 // The node of a path, whose classes and pairs set apart are given: met where it takes no condition, otherwise a ground or a split of the condition taken.
-// (Where it is not known, nothing is said: `locate` is asked first.) The last bytes of the pairs are for a table; those between are left as they are.
+// (Where it is not known, nothing is said: `locate` is asked first.) The last bytes of the pairs are for a table; all others are left as they are.
 pub fn node_at(
     sheet: &[u8],
     m: u16,
@@ -262,7 +263,7 @@ pub fn node_at(
     requires { ⌜ HasConditions (now sheet) m × Markable map (now pairs) count × PlaceWithin (now sheet) place ⌝ }
     ensures node { λ r. ⌜ ((ds : Decisions) → Represents map (now (pairs .entry)) count ds → Stands (now (sheet .entry)) place ds → nodeAs r ≡ node ds (conditions (now (sheet .entry)))) ⌝ }
     ensures leaves { λ r. ⌜ ((ds : Decisions) → Represents map (now (pairs .entry)) count ds → Stands (now (sheet .entry)) place ds → Leaves (now (sheet .entry)) r ds) ⌝ }
-    ensures untouched { λ r. ⌜ Untouched (now (pairs .entry)) (now (pairs .exit)) count ⌝ }
+    ensures outside { λ r. ⌜ Outside (now (pairs .entry)) (now (pairs .exit)) (length (now (pairs .entry)) - tableLength) ⌝ }
 {
     match place {
         Place::Within(c, from) => first_open(sheet, m, map, pairs, count, c, from),

@@ -1,10 +1,10 @@
 -- For the contracts of the inner functions; this file states nothing of document 01.
-use Prim.Native.Nat.{ℕ, _+_, _*_, _≤_, _<_}
+use Prim.Native.Nat.{ℕ, _+_, _*_, _≤_}
 use mathlib.Core.Bool.{Bool, true, false, cond}
 use mathlib.Core.List.{List}
 use mathlib.Core.Path.{_≡_}
 use lib.Dec.{leb}
-use lib.ListN.{length, getD}
+use lib.ListN.{length}
 use lib.Seq.{sets}
 use Rattle.sheet.specs.Format.{mostLots}
 use Rattle.sheet.specs.Conditions.{conditions}
@@ -38,7 +38,7 @@ pub record Searchable (s : List ℕ) (m : ℕ) (grouping : List ℕ) : Type 0 wh
   pub lots : length grouping ≤ mostLots
 
 -- The map and the first `count` pairs are those of the path `ds`, whose lots have entries in the map. The bytes have room for as many pairs more as there
--- are open "same" terms, and for a table behind them; and no more than they have in the code.
+-- are open "same" terms, and for a table behind them. There are no more bytes than the code has.
 pub record Standing (s : List ℕ) (map : Classes) (pairs : List ℕ) (count : ℕ) (ds : Decisions) : Type 0 where
   pub represents : Represents map pairs count ds
   pub small : All Small ds

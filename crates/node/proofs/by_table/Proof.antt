@@ -1,8 +1,6 @@
 -- `node::by_table`: the table is marked by the pairs in front of it, which stay as they are.
 use borrow.Author.Needs.{needs}
-use Prim.Native.Nat.{_*_, _≤_}
-use native.Mathlib.Omega.{arith}
-use Rattle.marks.proofs.Marks.{marks-represent, outside-front}
+use Rattle.marks.proofs.Marks.{marks-represent}
 use Rattle.node.proofs.by_table.Statement.{statement}
 use Rattle.node.proofs.by_table.Tie as tie
 
@@ -21,12 +19,11 @@ same-length c = search needs
 returns : tie.Need-returns
 returns c =
     let stamped = c .before .before .before .before .before .before .before in
-    let start = stamped .before .before .before .before .before .before .before in
     let table = stamped .stamp-pairs .ensures in (
       (λ ds rep w. c .first-unmarked .ensures .0 ds (rep .lots) (marks-represent rep (table .0)) w),
       (
         (λ ds rep w. c .first-unmarked .ensures .1 ds (rep .lots) (marks-represent rep (table .0)) w),
-        outside-front (table .1) (start .args .count) (omega (arith, start .pre .1 .room)),
+        table .1,
       ),
     )
 

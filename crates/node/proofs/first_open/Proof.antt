@@ -4,7 +4,7 @@ use Prim.Native.Nat.{ℕ, _≤_, _<_}
 use mathlib.Core.Bool.{Bool, true, false}
 use mathlib.Core.List.{List, _∷_}
 use mathlib.Core.Logic.{⊎-elim}
-use mathlib.Core.Path.{_≡_, refl, sym, ap, subst, _∙_}
+use mathlib.Core.Path.{_≡_, sym, ap, subst, _∙_}
 use native.Mathlib.Omega.{arith}
 use borrow.Author.Needs.{needs}
 use borrow.Author.Tests.{ltb-true, not-true, not-false}
@@ -13,12 +13,13 @@ use Rattle.sheet.specs.declared.Term.{Term}
 use Rattle.sheet.specs.Format.{nextAt}
 use Rattle.sheet.specs.Checks.{Accepted}
 use Rattle.sheet.specs.Conditions.{same, apart, termOf, termAt, recordsFrom}
-use Rattle.sheet.proofs.Accepted.{SoundRecord, sound, has-record}
+use Rattle.sheet.proofs.Accepted.{sound, has-record}
 use Rattle.sheet.proofs.ChainEnds.{rest-shorter}
 use Rattle.equality.specs.Node.{Decisions}
 use Rattle.classes.specs.Pairs.{Represents}
 use Rattle.classes.proofs.Path.{marked-says}
 use Rattle.marks.specs.Marks.{walkedMost}
+use Rattle.marks.proofs.Bytes.{outside-none}
 use Rattle.node.specs.Place.{PassesTo, ResumesWithin}
 use Rattle.node.proofs.Opening.{marksOf, closedBy, sign-same, sign-apart, Opening, opening-start, opening-next, opening-passes, none-open, open-here, open-leaves}
 use Rattle.node.proofs.Resuming.{rest-decides, rest-passes, later-resumes, apart-resumes}
@@ -167,7 +168,7 @@ returns c =
             apart-resumes s condition (from d) ds w a b _
             (subst (λ (r : ℕ). PassesTo s (from d) r (apart a b ∷ ds)) (next-of term)
             (open-leaves _ s (accepted d) (from d) (place d) (walked d) ds (λ u v n. marked-says rep u v) (rest-passes s condition (from d) ds w) a b low here))),
-        (λ i h. refl),
+        outside-none _ _,
       ),
     )
 
@@ -184,7 +185,7 @@ returns-2 c =
           none-open _ s (start .pre .0 .accepted) first (looped left .loop .at .0) (looped left .loop .inv) ds (λ u v n. marked-says rep u v) (rest-passes s condition first ds w)
           (c .if5 .taken) condition
           ∙ sym (rest-decides s condition first ds w)),
-      ((λ ds rep w. tt), (λ i h. refl)),
+      ((λ ds rep w. tt), outside-none _ _),
     )
 
 -- ---- the rest by the table

@@ -1,6 +1,7 @@
 -- `node::node_at`: the terms from the place on decide what the node is; nowhere, it is met.
 use borrow.Author.Needs.{needs}
-use mathlib.Core.Path.{refl, subst}
+use mathlib.Core.Path.{subst}
+use Rattle.marks.proofs.Bytes.{outside-none}
 use Rattle.node.specs.declared.Place.{Place}
 use Rattle.node.specs.Place.{Stands, PlaceWithin}
 use Rattle.node.proofs.Resuming.{none-met}
@@ -41,7 +42,7 @@ returns-2 : tie.Need-returns-2
 returns-2 c =
     let s = c .before .before .before .before .args .sheet .now in (
       (λ ds rep w. none-met ds s (subst (λ (p : Place). Stands s p ds) (c .enum-told .given .1) w)),
-      ((λ ds rep w. tt), (λ i h. refl)),
+      ((λ ds rep w. tt), outside-none _ _),
     )
 
 -- and no node stands at a place that is not known.
@@ -49,7 +50,7 @@ returns-3 : tie.Need-returns-3
 returns-3 c =
     let s = c .before .before .before .before .args .sheet .now in (
       (λ ds rep w. absurd (subst (λ (p : Place). Stands s p ds) (c .enum-told2 .given .1) w)),
-      ((λ ds rep w. tt), (λ i h. refl)),
+      ((λ ds rep w. tt), outside-none _ _),
     )
 
 pub node-at-spec : {M : Type 1} → statement M

@@ -18,7 +18,8 @@ use Rattle.equality.specs.Search.{nodeRule, Tree, groupingBytes}
 use Rattle.equality.specs.Visits.{Visits}
 use Rattle.equality.proofs.Visits.{met-tree, ground-tree, split-tree}
 use Rattle.store.specs.Records.{recordLength, splitRecord, groundRecord, metRecord, encode, capacity}
-use Rattle.classes.specs.declared.Classes.{Classes}
+use Rattle.classes.specs.Pairs.{Untouched}
+use Rattle.marks.proofs.Marks.{outside-front}
 use Rattle.node.specs.declared.Node as declared
 use Rattle.node.specs.declared.Place.{Place}
 use Rattle.node.specs.declared.Place.the-variants.{Scan}
@@ -592,9 +593,12 @@ module _ (t : ℕ) where
   abbrev pairs₁-sized : (c : Known) → length (pairs₁ c) ≡ length (opened c .args .pairs .now)
   pairs₁-sized c = looked c .node-at .kept .1 .1 .1 .0
 
+  visit-untouched : (c : Known) → Untouched (opened c .args .pairs .now) (pairs₁ c) (opened c .args .count)
+  visit-untouched c = outside-front (looked c .node-at .ensures .1 .1) (opened c .args .count) (omega (arith, opened c .pre .1 .1 .standing .room))
+
   visit-standing : (c : Known) (ds : Decisions) → Standing (sheet (opened c)) (opened c .args .map) (opened c .args .pairs .now) (opened c .args .count) ds
       → Standing (sheet (opened c)) (opened c .args .map) (pairs₁ c) (opened c .args .count) ds
-  visit-standing c ds st = below-standing st (pairs₁ c) (pairs₁-sized c) (looked c .node-at .ensures .1 .1)
+  visit-standing c ds st = below-standing st (pairs₁ c) (pairs₁-sized c) (visit-untouched c)
 
   -- ---- visit: its needs
 
@@ -676,7 +680,7 @@ module _ (t : ℕ) where
       let start = opened found in
       let path = start .pre .1 .1 in
       let kind = split-found .node2 .given .1 in (
-        omega (arith, start .pre .0, below-same (path .standing) (pairs₁ found) (pairs₁-sized found) (looked found .node-at .ensures .1 .1)),
+        omega (arith, start .pre .0, below-same (path .standing) (pairs₁ found) (pairs₁-sized found) (visit-untouched found)),
         (
           start .pre .1 .0,
           visit-room (roomy found),
@@ -720,7 +724,7 @@ module _ (t : ℕ) where
             (met-tree v (visit-node found ds (st, res) ∙ ap nodeAs (told .enum-told .given .1)))
             (record-at .write .ensures ∙ ap (λ (k : ℕ). sets (start .args .store .now) (recordLength * k) (encode metRecord)) place)
             (grouped c .write-grouping .ensures ∙ ap (λ (lots : List ℕ). take (length (start .args .grouping .now)) (drop 1 lots)) (st .represents .lots))),
-        (looked found .node-at .ensures .1 .1, located found .locate .ensures .1 .1 .1),
+        (visit-untouched found, located found .locate .ensures .1 .1 .1),
       )
 
   -- of a ground,
@@ -745,7 +749,7 @@ module _ (t : ℕ) where
             ground-explored (start .args .at .before) (start .args .store .now) _ (start .args .grouping .now) (visit-room (roomy found)) (condition .0 .0 .0) tree
             (ground-tree v (visit-node found ds (st, res) ∙ ap nodeAs (condition .1)))
             (record-at .write2 .ensures ∙ ap (λ (k : ℕ). sets (start .args .store .now) (recordLength * k) (encode (groundRecord (condition .0 .0 .0)))) place)),
-        (looked found .node-at .ensures .1 .1, located found .locate .ensures .1 .1 .1),
+        (visit-untouched found, located found .locate .ensures .1 .1 .1),
       )
 
   -- and of a split.
@@ -769,7 +773,7 @@ module _ (t : ℕ) where
       let kind = split-found .node2 .given .1 in (
         (λ ds tree st res v.
             ended .branches .ensures .0 ds tree (visit-standing found ds st) (visit-node found ds (st, res) ∙ ap nodeAs kind) (visit-leaves found ds (st, res) _ kind) v),
-        ((λ i h. ended .branches .ensures .1 .0 i h ∙ looked found .node-at .ensures .1 .1 i h), later-through _ _ _ _ (located found .locate .ensures .1 .1 .1) (ended .branches .ensures .1 .1)),
+        ((λ i h. ended .branches .ensures .1 .0 i h ∙ visit-untouched found i h), later-through _ _ _ _ (located found .locate .ensures .1 .1 .1) (ended .branches .ensures .1 .1)),
       )
 
 pub +branches+visit-spec : {M : Type 1} → statement M
