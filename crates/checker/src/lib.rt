@@ -19,7 +19,7 @@ ghost use Rattle.checker.specs.Answers.{checkedAnswer, PassedExactly, Pa
 ghost use Rattle.checker.specs.Steps.{Counted, Rest, WalkRest, stepAs, noneLeft, GoesOn};
 ghost use Rattle.classes.specs.Maps.{ClassMap};
 ghost use Rattle.marks.specs.Marks.{Room, Marks, markAt};
-ghost use Rattle.checker.specs.Terms.{allows, allowsClasses};
+ghost use Rattle.checker.specs.Terms.{allows, allowsClasses, latestBetween};
 use path::Split;
 use sheet::Condition;
 use sheet::Header;
@@ -110,8 +110,7 @@ fn all_false(sheet: &[u8], m: u16, lots: &[u8], table: &[u8], head: Record) -> b
 // whose classes have another exclusive or is not one: one test that nearly always tells is quicker than the four.
 fn latest_between(path: &[u32], depth: usize, lots: &[u8], x: u8, y: u8) -> usize
     requires { ⌜ PathWithin (now path) depth × ClassMap (now lots) ⌝ }
-    ensures within { λ r. ⌜ r ≤ depth ⌝ }
-    ensures marked { λ r. ⌜ not (eqb r 0) ≡ marked (now (lots .entry)) (decisionsOf (pathOf (now (path .entry)) depth)) x y ⌝ }
+    ensures { λ r. ⌜ r ≡ latestBetween (now (lots .entry)) x y (decisionsOf (pathOf (now (path .entry)) depth)) ⌝ }
 {
     let both = x ^ y;
     let mut left = depth;
@@ -130,7 +129,7 @@ fn latest_between(path: &[u32], depth: usize, lots: &[u8], x: u8, y: u8) -> usiz
 }
 
 // The first record of the chain whose term is not seen to be false, or 0: for a "same" term whose lots share no class the splits are walked over, as long as
-// all that were walked and these are no more than `marks::WALKED`.
+// those passed over so far and a whole walk more are no more than `marks::WALKED`. The split found is not counted: it is one step a term.
 fn past_false(sheet: &[u8], m: u16, path: &[u32], depth: usize, lots: &[u8], head: Record) -> Record
     requires { ⌜ HasConditions (now sheet) m × PathWithin (now path) depth × ClassMap (now lots) × (head .0 ≤ recordCount (now sheet)) ⌝ }
     ensures within { λ r. ⌜ r .0 ≤ recordCount (now (sheet .entry)) ⌝ }

@@ -1,18 +1,18 @@
--- `checker::latest_between`: no split from `left` on marks x and y, so the first `depth` splits mark them exactly where the first `left` do; `left` falls.
+-- `checker::latest_between`: no split from `left` on is set apart between x and y, so the latest of the first `depth` is that of the first `left`; `left` falls.
 use borrow.Author.Needs.{needs}
-use borrow.Author.Tests.{not-true, not-false, eq-eqb, ne-eqb}
+use borrow.Author.Tests.{not-true, not-false}
 use Prim.Native.Nat.{ℕ, suc, _+_, _-_, _≤_}
 use mathlib.Core.List.{List}
 use mathlib.Core.Logic.{⊎-elim}
 use mathlib.Core.Path.{_≡_, sym, ap, _∙_}
 use native.Mathlib.Omega.{arith}
 use Rattle.path.proofs.Within.{within-less}
-use Rattle.checker.proofs.Splits.{markedBy, none-marked, same-passed, found, passed, passed-by-xor}
+use Rattle.checker.proofs.Splits.{latestOf, latest-none, same-passed, found, passed, passed-by-xor}
 use Rattle.checker.proofs.latest_between.Statement.{statement}
 use Rattle.checker.proofs.latest_between.Tie as tie
 
 abbrev Inv-loop : tie.InvT-loop
-Inv-loop path depth lots x y both left₀ left = (left ≤ depth) × (markedBy lots path x y depth ≡ markedBy lots path x y left)
+Inv-loop path depth lots x y both left₀ left = (left ≤ depth) × (latestOf lots path x y depth ≡ latestOf lots path x y left)
 
 abbrev μ-loop : tie.MeasureT-loop
 μ-loop path depth lots x y both left₀ left = left
@@ -70,13 +70,10 @@ returns c =
     let apart = c .before .before .before .before .before .before .before in
     let read = apart .before .before in
     let pair = read .pair-at in
-    let h = read .before .before in (
-      h .loop .inv .0,
-      rw (ne-eqb (left h) 0 (λ e. omega (arith, read .before)))
-          (sym (h .loop .inv .1
-          ∙ found (lots h) (path h) (x h) (y h) (left h) (left h - 1) (last (read .before)) (pair .result) (pair .ensures .0)
-          (not-true _ (apart .if1 .taken)) (sym (c .before .between .ensures) ∙ c .if3 .taken))),
-    )
+    let h = read .before .before in
+    sym (h .loop .inv .1
+    ∙ found (lots h) (path h) (x h) (y h) (left h) (left h - 1) (last (read .before)) (pair .result) (pair .ensures .0)
+    (not-true _ (apart .if1 .taken)) (sym (c .before .between .ensures) ∙ c .if3 .taken))
 
 sub-left : tie.Need-sub-left Inv-loop μ-loop
 sub-left c = search needs
@@ -111,10 +108,8 @@ loop-again c =
 returns-2 : tie.Need-returns-2 Inv-loop μ-loop
 returns-2 c =
     let h = c .before in
-    let done : left h ≡ 0 = omega (arith, c) in (
-      h .loop .inv .0,
-      rw (eq-eqb (left h) 0 done) (sym (h .loop .inv .1 ∙ ap (markedBy (lots h) (path h) (x h) (y h)) done ∙ none-marked (lots h) (path h) (x h) (y h))),
-    )
+    let done : left h ≡ 0 = omega (arith, c) in
+    done ∙ sym (h .loop .inv .1 ∙ ap (latestOf (lots h) (path h) (x h) (y h)) done ∙ latest-none (lots h) (path h) (x h) (y h))
 
 pub latest-between-spec : {M : Type 1} → statement M
 latest-between-spec =

@@ -19,7 +19,7 @@ use Rattle.equality.specs.Node.{classOf, marked}
 use Rattle.equality.proofs.Passing.{Passing, passing-start, passing-next, left-decides}
 use Rattle.marks.specs.Marks.{walkedMost}
 use Rattle.checker.specs.Terms.{allows, allowsClasses}
-use Rattle.checker.proofs.Splits.{decided}
+use Rattle.checker.proofs.Splits.{decided, found-marks, found-within}
 use Rattle.checker.proofs.Grounds.{allows-term}
 use Rattle.checker.proofs.past_false.Statement.{statement}
 use Rattle.checker.proofs.past_false.Tie as tie
@@ -111,7 +111,7 @@ returns-2 : tie.Need-returns-2 Inv-loop μ-loop
 returns-2 c = leaves (tested (turn (c .before .before .before .before .before)))
 
 sub-walked : tie.Need-sub-walked Inv-loop μ-loop
-sub-walked c = search needs
+sub-walked c = found-within _ _ _ _ _ _ (c .before .latest-between .ensures)
 
 -- Up to here no more than `WALKED` were walked over, and the path's splits are fewer than its numbers: their sum fits.
 add-walked : tie.Need-add-walked Inv-loop μ-loop
@@ -137,7 +137,7 @@ false-term c =
     allows-term lots (marks l) (signAt s r) (firstLotAt s r) (secondLotAt s r)
     ∙ ap (λ (t : Term). allowsClasses (marks l) (eqb (t .sign) sameSign) (classOf lots (t .a .0)) (classOf lots (t .b .0))) (sym (term .ensures))
     ∙ ⊎-elim
-    (λ w. simp (eq-eqb (term .result .sign) sameSign (w .0 .taken), ne-eqb _ _ (w .1 .left), sym (w .3 .ensures .1), ne-eqb _ _ (w .4 .left)))
+    (λ w. simp (eq-eqb (term .result .sign) sameSign (w .0 .taken), ne-eqb _ _ (w .1 .left), found-marks _ _ _ _ _ _ (w .3 .ensures) (w .4 .left)))
     (λ w. simp (ne-eqb (term .result .sign) sameSign (w .0 .left), eq-eqb _ _ (w .1 .left)))
     (c .if2 .came)
 
