@@ -94,14 +94,22 @@ fn all_false(sheet: &[u8], m: u16, lots: &[u8], table: &[u8], head: Record) -> b
     ensures { λ r. ⌜ r ≡ not (anyTerm (allows (now (lots .entry)) (markAt (now (table .entry)) 0)) (termsFrom (now (sheet .entry)) (head .0))) ⌝ }
 {
     let mut at = head;
-    while at.0 != 0 {
-        let t = sheet::chain::term_at(sheet, at, m);
-        let a = t.a.0 as usize;
-        let b = t.b.0 as usize;
-        if allows(table, t.sign, lots[a], lots[b]) {
-            return false;
+    // In runs of records that follow each other, as `node::first_unmarked` goes.
+    'chain: while at.0 != 0 {
+        loop {
+            let following = at.0 + 1;
+            let t = sheet::chain::term_at(sheet, at, m);
+            let a = t.a.0 as usize;
+            let b = t.b.0 as usize;
+            if allows(table, t.sign, lots[a], lots[b]) {
+                return false;
+            }
+            if t.next.0 != following {
+                at = t.next;
+                continue 'chain;
+            }
+            at = Record(following);
         }
-        at = t.next;
     }
     true
 }

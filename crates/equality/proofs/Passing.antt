@@ -24,6 +24,19 @@ pub record Passing (q : Term → Bool) (s : List ℕ) (head at : ℕ) : Type 0 w
 pub passing-start : (q : Term → Bool) (s : List ℕ) (head : ℕ) → head ≤ recordCount s → Passing q s head head
 passing-start q s head h = record { within = h; passed = []; falses = tt; place = refl }
 
+-- What a loop passes from where another has left follows what that one has passed.
+pub passing-through : {q : Term → Bool} {s : List ℕ} {head between at : ℕ} → Passing q s head between → Passing q s between at → Passing q s head at
+passing-through {q} {s} {at = at} k l =
+    record {
+      within = l .within;
+      passed = k .passed ++ l .passed;
+      falses = all-both (λ t. q t ≡ false) (k .passed) (l .passed) (k .falses) (l .falses);
+      place =
+          k .place
+          ∙ ap (λ (ts : List Term). k .passed ++ ts) (l .place)
+          ∙ sym (append-assoc (k .passed) (l .passed) (termsFrom s at));
+    }
+
 module _ (q : Term → Bool) (s : List ℕ) (ok : Accepted s) (head at : ℕ) (l : Passing q s head at) where
   stepped : 1 ≤ at → termsFrom s head ≡ l .passed ++ termAt s at ∷ termsFrom s (nextAt s at)
   stepped h = l .place ∙ ap (λ (ts : List Term). l .passed ++ ts) (terms-step s ok at h (l .within))
