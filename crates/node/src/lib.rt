@@ -81,17 +81,26 @@ pub fn scan(sheet: &[u8], m: u16, map: Classes, levels: &mut [u16], level: u16) 
             if at.0 == 0 {
                 break 'conditions Place::Within(Condition(c), head);
             }
-            let t = sheet::chain::term_at(sheet, at, m);
-            let a = t.a.0 as usize;
-            let b = t.b.0 as usize;
-            let shared = lots[a] == lots[b];
-            if shared == (t.sign == SAME) {
-                if shared {
-                    levels[place] = level;
+            // Records of a chain mostly follow each other in the sheet. Within such a run the next record is known before its number is read: the loop over a
+            // run need not wait for it.
+            'run: loop {
+                let following = at.0 + 1;
+                let t = sheet::chain::term_at(sheet, at, m);
+                let a = t.a.0 as usize;
+                let b = t.b.0 as usize;
+                let shared = lots[a] == lots[b];
+                if shared == (t.sign == SAME) {
+                    if shared {
+                        levels[place] = level;
+                    }
+                    continue 'conditions;
                 }
-                continue 'conditions;
+                if t.next.0 != following {
+                    at = t.next;
+                    continue 'terms;
+                }
+                at = Record(following);
             }
-            at = t.next;
         }
     }
 }
