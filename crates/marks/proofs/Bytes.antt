@@ -29,12 +29,21 @@ outside-then p q =
 
 -- ---- one bit
 
+-- Where two equations cannot both hold, not both tests pass.
+not-both : (a b c d : ℕ) → (a ≡ b → c ≡ d → ⊥) → (eqb a b && eqb c d) ≡ false
+not-both a b c d n = go (eqb a b) (eqb c d) refl refl
+  where
+    go : (p q : Bool) → eqb a b ≡ p → eqb c d ≡ q → (p && q) ≡ false
+    go true true e f = absurd (n (eqb-true a b e) (eqb-true c d f))
+    go true false e f = refl
+    go false q e f = refl
+
 module _ (at x y u v : ℕ) (hx : x < y) (hy : y ≤ mostLots) (hu : u < v) (hv : v ≤ mostLots) where
   -- Two bits of the table are one only if both classes are the same,
-  pub same-row : place at u v ≡ place at x y → v ≡ y
+  same-row : place at u v ≡ place at x y → v ≡ y
   same-row e = omega arith
 
-  pub same-bit : place at u v ≡ place at x y → u % 8 ≡ x % 8 → u ≡ x
+  same-bit : place at u v ≡ place at x y → u % 8 ≡ x % 8 → u ≡ x
   same-bit e f = omega arith
 
   -- and so says the test on both classes.
@@ -48,15 +57,10 @@ module _ (at x y u v : ℕ) (hx : x < y) (hy : y ≤ mostLots) (hu : u < v) (hv 
           sym (rw other)
 
   two-bytes : (place at u v ≡ place at x y → ⊥) → (eqb u x && eqb v y) ≡ false
-  two-bytes n = go (eqb u x) (eqb v y) refl refl
-    where
-      go : (p q : Bool) → eqb u x ≡ p → eqb v y ≡ q → (p && q) ≡ false
-      go true true e f = absurd (n (omega (arith, eqb-true u x e, eqb-true v y f)))
-      go true false e f = refl
-      go false q e f = refl
+  two-bytes n = not-both u x v y (λ e f. n (omega arith))
 
   -- A bit is set, or another one.
-  pub bit-set : (l : List ℕ) → Room l at → bitAt (withBit l at u v) at x y ≡ (eqb u x && eqb v y || bitAt l at x y)
+  bit-set : (l : List ℕ) → Room l at → bitAt (withBit l at u v) at x y ≡ (eqb u x && eqb v y || bitAt l at x y)
   bit-set l room = go (eqb (place at u v) (place at x y)) refl
     where
       go : (p : Bool) → eqb (place at u v) (place at x y) ≡ p → bitAt (withBit l at u v) at x y ≡ (eqb u x && eqb v y || bitAt l at x y)
@@ -71,7 +75,7 @@ module _ (at x y u v : ℕ) (hx : x < y) (hy : y ≤ mostLots) (hu : u < v) (hv 
           ap (λ (b : ℕ). bitOf b (x % 8)) (getD-set-other l (place at u v) (place at x y) (bitOr (getD l (place at u v) 0) (2 ^ (u % 8))) 0 (λ e. other (sym e)))
           ∙ sym (rw (two-bytes other))
 
-pub bit-outside : (l : List ℕ) (at x y : ℕ) → x < y → y ≤ mostLots → Outside l (withBit l at x y) at
+bit-outside : (l : List ℕ) (at x y : ℕ) → x < y → y ≤ mostLots → Outside l (withBit l at x y) at
 bit-outside l at x y hx hy =
     record {
       size = simp length-set;
@@ -81,20 +85,11 @@ bit-outside l at x y hx hy =
 
 -- ---- two classes, in whichever order
 
--- Of two classes the one is not the other: a test on both, in the wrong order, fails.
-crossed : (x y u v : ℕ) → x < y → u < v → (eqb x v && eqb y u) ≡ false
-crossed x y u v h k = go (eqb x v) (eqb y u) refl refl
-  where
-    go : (p q : Bool) → eqb x v ≡ p → eqb y u ≡ q → (p && q) ≡ false
-    go true true e f = absurd (omega (arith, eqb-true x v e, eqb-true y u f))
-    go true false e f = refl
-    go false q e f = refl
-
 -- The smaller stands first,
 pub marked-first : (l : List ℕ) (at x y : ℕ) → Room l at → x < y → y ≤ mostLots → MarkedToo l (withBit l at x y) at x y
 marked-first l at x y room hx hy =
     record {
-      bits = λ u v hu hv. bit-set at u v x y hu hv hx hy l room ∙ sym (rw (crossed x y u v hx hu) (beside (eqb x u && eqb y v) (bitAt l at u v)));
+      bits = λ u v hu hv. bit-set at u v x y hu hv hx hy l room ∙ sym (rw (not-both x v y u (λ e f. omega arith)) (beside (eqb x u && eqb y v) (bitAt l at u v)));
       outside = bit-outside l at x y hx hy;
     }
   where
@@ -108,7 +103,7 @@ marked-second l at x y room hy hx =
     record {
       bits = λ u v hu hv.
           bit-set at u v y x hu hv hy hx l room
-          ∙ turned (eqb y u) (eqb x v) (eqb x u) (eqb y v) (bitAt l at u v) (crossed y x u v hy hu);
+          ∙ turned (eqb y u) (eqb x v) (eqb x u) (eqb y v) (bitAt l at u v) (not-both y v x u (λ e f. omega arith));
       outside = bit-outside l at y x hy hx;
     }
   where
@@ -127,25 +122,9 @@ marked-second l at x y room hy hx =
 pub marked-itself : (l : List ℕ) (at x y : ℕ) → x ≡ y → MarkedToo l l at x y
 marked-itself l at x y e =
     record {
-      bits = λ u v hu hv. sym (rw (other u v hu, other′ u v hu) refl);
+      bits = λ u v hu hv. sym (rw (not-both x u y v (λ f g. omega arith), not-both x v y u (λ f g. omega arith)));
       outside = outside-none l at;
     }
-  where
-    other : (u v : ℕ) → u < v → (eqb x u && eqb y v) ≡ false
-    other u v h = go (eqb x u) (eqb y v) refl refl
-      where
-        go : (p q : Bool) → eqb x u ≡ p → eqb y v ≡ q → (p && q) ≡ false
-        go true true f g = absurd (omega (arith, eqb-true x u f, eqb-true y v g))
-        go true false f g = refl
-        go false q f g = refl
-
-    other′ : (u v : ℕ) → u < v → (eqb x v && eqb y u) ≡ false
-    other′ u v h = go (eqb x v) (eqb y u) refl refl
-      where
-        go : (p q : Bool) → eqb x v ≡ p → eqb y u ≡ q → (p && q) ≡ false
-        go true true f g = absurd (omega (arith, eqb-true x v f, eqb-true y u g))
-        go true false f g = refl
-        go false q f g = refl
 
 -- ---- zeroed
 

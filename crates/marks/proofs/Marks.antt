@@ -1,13 +1,13 @@
 -- Laws of a table of marks, for whoever marks classes in it and asks.
 use Prim.Native.Nat.{ℕ, _*_, _+_, _≤_, _<_}
-use mathlib.Core.Bool.{Bool, true, false, cond, _&&_, _||_}
+use mathlib.Core.Bool.{Bool, true, false, cond, _||_}
 use mathlib.Core.List.{List, [], _∷_}
 use mathlib.Core.Logic.{_≢_}
 use mathlib.Core.Path.{_≡_, refl, sym, ap, subst, _∙_}
 use native.Mathlib.Numerals.{add-one}
 use native.Mathlib.Omega.{arith}
 use borrow.Author.Tests.{ltb-true, ltb-false}
-use lib.Dec.{eqb, ltb}
+use lib.Dec.{ltb}
 use lib.ListN.{getD}
 use Rattle.sheet.specs.Format.{mostLots}
 use Rattle.sheet.specs.Conditions.{same, apart}
@@ -26,10 +26,6 @@ module _ {at : ℕ} {cs : List ℕ} where
   unfolding marked
   marks-none u = record { says = u .none }
 
-  pub none-marks : {l : List ℕ} → Marks l at cs [] → Unmarked l at
-  unfolding marked
-  none-marks m = record { none = m .says }
-
   -- a pair set same marks nothing more,
   pub marks-same : {l : List ℕ} {ds : Decisions} (a b : ℕ) → Marks l at cs ds → Marks l at cs (same a b ∷ ds)
   unfolding marked
@@ -43,12 +39,12 @@ module _ {at : ℕ} {cs : List ℕ} where
       record { says = λ x y hx hy. t .bits x y hx hy ∙ ap (λ (p : Bool). between cs x y a b || p) (m .says x y hx hy) }
 
 -- Which of the decisions are "apart" is all that matters.
-pub marks-only : {l : List ℕ} {at : ℕ} {cs : List ℕ} (ds : Decisions) → Marks l at cs (onlyApart ds) → Marks l at cs ds
+marks-only : {l : List ℕ} {at : ℕ} {cs : List ℕ} (ds : Decisions) → Marks l at cs (onlyApart ds) → Marks l at cs ds
 marks-only {cs = cs} ds m = record { says = λ x y hx hy. m .says x y hx hy ∙ sym (marked-only cs ds x y) }
 
 -- ---- what the table says
 
--- Two classes are marked in whichever order they are asked for,
+-- Two classes are marked in whichever order they are asked for.
 pub marks-at : {l : List ℕ} {at : ℕ} {cs : List ℕ} {ds : Decisions} → Marks l at cs ds → (x y : ℕ) → x ≤ mostLots → y ≤ mostLots → x ≢ y
     → markAt l at x y ≡ marked cs ds x y
 marks-at {l} {at} {cs} {ds} m x y hx hy n = go (ltb x y) refl
@@ -60,16 +56,6 @@ marks-at {l} {at} {cs} {ds} m x y hx hy n = go (ltb x y) refl
     go : (p : Bool) → ltb x y ≡ p → cond p (bitAt l at x y) (cond (ltb y x) (bitAt l at y x) false) ≡ marked cs ds x y
     go true e = m .says x y (ltb-true x y e) hy
     go false e = back (ltb y x) refl (ltb-false x y e)
-
--- and marked once more they are as they were.
-pub marked-again : {before between after : List ℕ} {at x y : ℕ} → MarkedToo before between at x y → MarkedToo between after at x y
-    → (u v : ℕ) → u < v → v ≤ mostLots → bitAt after at u v ≡ bitAt between at u v
-marked-again {before} {at = at} {x = x} {y = y} s t u v hu hv =
-    t .bits u v hu hv ∙ rw (s .bits u v hu hv) (twice (eqb x u && eqb y v || eqb x v && eqb y u) (bitAt before at u v))
-  where
-    twice : (p b : Bool) → (p || (p || b)) ≡ (p || b)
-    twice true b = refl
-    twice false b = refl
 
 -- The table of a path's pairs is the path's.
 pub marks-represent : {map : Classes} {bytes : List ℕ} {count : ℕ} {ds : Decisions} → Represents map bytes count ds

@@ -8,7 +8,7 @@ use Rattle.sheet.specs.Conditions.{same, apart, countUp}
 use Rattle.equality.specs.Node.{Decisions, merged, classes, marked}
 use Rattle.marks.specs.Marks.{tableLength, bitOf, place, withBit, markAt}
 
--- The first bits of the first row, and of the next; and the last of all, whose byte is the table's last.
+-- The first byte of the first row and of the next; in later rows the first byte and the second; and the byte of the last bit, which is the table's last.
 pub places : place 0 0 1 ∷ place 0 0 2 ∷ place 0 7 8 ∷ place 0 8 9 ∷ (place 2048 127 128 + 1) ∷ [] ≡ 0 ∷ 16 ∷ 112 ∷ 129 ∷ (2048 + tableLength) ∷ []
 places = refl
 
@@ -38,7 +38,7 @@ pub defined :
 unfolding merged classes marked countUp
 defined = refl
 
--- A bit set again leaves the byte as it is, and two bits of one byte stand beside each other.
+-- A bit set again leaves the byte as it is, two bits of one byte stand beside each other, and no byte is added.
 pub again :
     getD (withBit table 3 1 9) (place 3 1 9) 0 ∷ getD (withBit table 3 2 9) (place 3 1 9) 0 ∷ length (withBit table 3 127 128) ∷ []
     ≡ 2 ∷ 6 ∷ (3 + tableLength) ∷ []

@@ -56,11 +56,11 @@ pub record Outside (before after : List ℕ) (at : ℕ) : Type 0 where
   pub front : (i : ℕ) → i < at → getD after i 0 ≡ getD before i 0
   pub back : (i : ℕ) → at + tableLength ≤ i → getD after i 0 ≡ getD before i 0
 
--- The classes x and y are marked besides those that were, and nothing else is changed.
+-- The classes x and y are marked besides those that were: no other two are marked or unmarked, and no byte outside the table is changed.
 pub record MarkedToo (before after : List ℕ) (at x y : ℕ) : Type 0 where
   pub bits : (u v : ℕ) → u < v → v ≤ mostLots → bitAt after at u v ≡ ((eqb x u && eqb y v || eqb x v && eqb y u) || bitAt before at u v)
   pub outside : Outside before after at
 
--- So many pairs are walked over for false terms before a table is marked (`WALKED`). No answer depends on it.
-abbrev pub walkedMost : ℕ
-walkedMost = 64
+-- So many pairs are walked over for false terms before a table is worth its marking (`WALKED`). No answer depends on it.
+abbrev pub walkLimit : ℕ
+walkLimit = 64

@@ -12,8 +12,7 @@ use classes::ENTRIES;
 // The bytes of a row: a bit for each class that can be the smaller of two.
 const ROW_LENGTH: usize = 16;
 
-// The bytes of a table: a row for each class that can be the larger. One bit for two classes, where a bit for each order would take twice the marking and a
-// table that is slower to clear.
+// The bytes of a table: a row for each class that can be the larger. With a bit for each order a pair would set two, and the table be slower to clear.
 pub const TABLE_LENGTH: usize = ROW_LENGTH * (ENTRIES - 1);
 
 // So many pairs are walked over for false terms before a table is worth its marking (docs/PERFORMANCE.md).

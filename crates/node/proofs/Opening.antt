@@ -82,7 +82,7 @@ module _ (ds : Decisions) (a b : ℕ) where
   none-later ts none = all-map closed-stays ts none
 
   -- and the pair is not either.
-  pub pair-later : value (apart a b ∷ ds) (same a b) ≢ isOpen
+  pair-later : value (apart a b ∷ ds) (same a b) ≢ isOpen
   pair-later o = false≢true (sym (open-not-closed (apart a b ∷ ds) (same a b) o) ∙ apart-closes ds a b)
 
 -- ---- the loop

@@ -31,7 +31,7 @@ splitOn c t = Split (record { condition = c; a = t .a; b = t .b; after = t .next
 
 -- ---- what the marks of a node are looked up in
 
--- The map has its entries, and so have the lots of the first `count` pairs; behind the pairs there is room for a table.
+-- The map is a class map with entries for the lots of the first `count` pairs, and past these pairs the bytes have room for a table.
 pub record Markable (map : Classes) (pairs : List ℕ) (count : ℕ) : Type 0 where
   pub entries : ClassMap (map .lots)
   pub within : PairsWithin pairs count

@@ -108,7 +108,7 @@ module _ {s : List ℕ} {map : Classes} {pairs : List ℕ} {count : ℕ} {ds : D
       (λ a. fun-ext
       (λ b. ap₂ _||_ (ap₂ eqb (smallest-says (st .represents) a) (smallest-says (st .represents) b)) (marked-says (st .represents) a b))))
 
-  pub pairs-within : PairsWithin pairs count
+  pairs-within : PairsWithin pairs count
   pairs-within = represented-within (st .represents) (st .small) (omega (arith, st .room))
 
   pub markable : Markable map pairs count
@@ -178,7 +178,7 @@ module _ {s : List ℕ} {map : Classes} {pairs : List ℕ} {count : ℕ} {ds : D
           size = simp length-set (omega (arith, st .size));
         })
 
--- and its open "same" terms are as many.
+-- Whatever is written after the pairs, the open "same" terms are as many.
 pub below-same : {s : List ℕ} {map : Classes} {pairs : List ℕ} {count : ℕ} {ds : Decisions} → Standing s map pairs count ds
     → (pairs′ : List ℕ) → length pairs′ ≡ length pairs → Untouched pairs pairs′ count → openByMap s (map .lots) pairs′ count ≡ openByMap s (map .lots) pairs count
 below-same st pairs′ len untouched = counted (below-standing st pairs′ len untouched) ∙ sym (counted st)

@@ -17,7 +17,7 @@ use Rattle.sheet.proofs.ChainEnds.{rest-shorter}
 use Rattle.equality.specs.Meaning.{anyTerm}
 use Rattle.equality.specs.Node.{classOf, marked}
 use Rattle.equality.proofs.Passing.{Passing, passing-start, passing-next, left-decides}
-use Rattle.marks.specs.Marks.{walkedMost}
+use Rattle.marks.specs.Marks.{walkLimit}
 use Rattle.checker.specs.Terms.{allows, allowsClasses}
 use Rattle.checker.proofs.Splits.{decided, found-marks, found-within}
 use Rattle.checker.proofs.Grounds.{allows-term}
@@ -119,7 +119,7 @@ add-walked c =
     let few = c .before .before in
     let l = tested (turn (few .before .before .before)) in
     let start = begun l in
-    record { fits = omega (arith, ltb-false walkedMost (l .loop .walked) (few .if4 .left), start .pre .1 .within, start .good) }
+    record { fits = omega (arith, ltb-false walkLimit (l .loop .walked) (few .if4 .left), start .pre .1 .within, start .good) }
 
 returns-3 : tie.Need-returns-3 Inv-loop μ-loop
 returns-3 c = leaves (tested (turn (c .before .before)))

@@ -1,7 +1,7 @@
 -- `node::first_open`: the terms that the loop has passed are closed by the marks; it leaves at the first that is not, and the terms from the record on decide
 -- what the node is, by the table where the loop has left them.
 use Prim.Native.Nat.{ℕ, _≤_, _<_}
-use mathlib.Core.Bool.{Bool, true, false}
+use mathlib.Core.Bool.{Bool, false}
 use mathlib.Core.List.{List, _∷_}
 use mathlib.Core.Logic.{⊎-elim}
 use mathlib.Core.Path.{_≡_, sym, ap, subst, _∙_}
@@ -18,7 +18,7 @@ use Rattle.sheet.proofs.ChainEnds.{rest-shorter}
 use Rattle.equality.specs.Node.{Decisions}
 use Rattle.classes.specs.Pairs.{Represents}
 use Rattle.classes.proofs.Path.{marked-says}
-use Rattle.marks.specs.Marks.{walkedMost}
+use Rattle.marks.specs.Marks.{walkLimit}
 use Rattle.marks.proofs.Bytes.{outside-none}
 use Rattle.node.specs.Place.{PassesTo, ResumesWithin}
 use Rattle.node.proofs.Opening.{marksOf, closedBy, sign-same, sign-apart, Opening, opening-start, opening-next, opening-passes, none-open, open-here, open-leaves}
@@ -111,7 +111,7 @@ split-on-requires c κs = tt
 add-walked : tie.Need-add-walked Inv-loop μ-loop
 add-walked c =
     let turn = c .before .before .before .before .before .before .before .before .before in
-    omega (arith, ltb-true (turn .before .before .before .loop .walked) walkedMost (turn .if2 .taken), begun turn .pre .1 .room, begun turn .good .1 .1 .1 .0)
+    omega (arith, ltb-true (turn .before .before .before .loop .walked) walkLimit (turn .if2 .taken), begun turn .pre .1 .room, begun turn .good .1 .1 .1 .0)
 
 -- The loop goes on at the record's next:
 next-of : (c : Read) → nextAt (bytes (turn c)) (place (turn c)) ≡ c .term-at .result .next .0

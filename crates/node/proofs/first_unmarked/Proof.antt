@@ -1,7 +1,7 @@
 -- `node::first_unmarked`: the terms that the loop over a run of records has passed since the run began, and those that the loop over the runs has passed before, are
 -- closed by the table; the first that is not is where it leaves. The rest of the chain falls with each record, so it is shorter after a run than before.
 use Prim.Native.Nat.{ℕ, _+_, _≤_, _<_}
-use mathlib.Core.Bool.{Bool, true, false}
+use mathlib.Core.Bool.{Bool, false}
 use mathlib.Core.List.{List, _∷_}
 use mathlib.Core.Logic.{⊎-elim}
 use mathlib.Core.Path.{_≡_, sym, ap, subst, _∙_}
