@@ -94,7 +94,7 @@ fn all_false(sheet: &[u8], m: u16, lots: &[u8], table: &[u8], head: Record) -> b
     ensures { λ r. ⌜ r ≡ not (anyTerm (allows (now (lots .entry)) (markAt (now (table .entry)) 0)) (termsFrom (now (sheet .entry)) (head .0))) ⌝ }
 {
     let mut at = head;
-    // In runs of records that follow each other, as `node::first_unmarked` goes.
+    // In runs of records that follow each other, as `node::scan` goes.
     'chain: while at.0 != 0 {
         loop {
             let following = at.0 + 1;

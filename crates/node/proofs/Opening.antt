@@ -1,13 +1,13 @@
 -- The loop over the terms of the taken condition: those that it has passed are not open, and neither they nor the open term where it leaves are open once
 -- that term's lots are set apart.
 use Prim.Native.Nat.{ℕ, _≤_}
-use mathlib.Core.Bool.{Bool, true, false, cond, false≢true}
+use mathlib.Core.Bool.{Bool, true, false, cond, not, false≢true}
 use mathlib.Core.List.{List, [], _∷_, _++_, append-nil, append-assoc}
 use mathlib.Core.Logic.{_≢_}
 use mathlib.Core.Path.{_≡_, refl, sym, ap, _∙_}
-use borrow.Author.Tests.{ne-eqb, eqb-false}
+use borrow.Author.Tests.{not-false, ne-eqb, eqb-false}
 use native.Mathlib.Omega.{arith}
-use Rattle.sheet.specs.Format.{sameSign, recordCount, nextAt}
+use Rattle.sheet.specs.Format.{sameSign, nextAt}
 use Rattle.sheet.specs.Checks.{Accepted}
 use Rattle.sheet.specs.Conditions.{Term, same, apart, termOf, termAt, termsFrom}
 use Rattle.buffers.specs.Lists.{All}
@@ -16,6 +16,7 @@ use Rattle.sheet.proofs.ChainEnds.{terms-end, terms-step}
 use Rattle.equality.specs.Meaning.{anyTerm}
 use Rattle.equality.specs.Node.{Decisions, classOf, classes, share, marked, markedApart, Value, isTrue, isFalse, isOpen, value, trueOrOpenApart, passedOver, ground, split, openOr, groundOrSplit}
 use Rattle.buffers.proofs.Lists.{all-map, all-first, all-second, all-both}
+use Rattle.equality.proofs.Passing.{Passing}
 use Rattle.equality.proofs.Some.{any-false, any-none, some-none}
 use Rattle.equality.proofs.Node.{openSame, settled-by-classes, unsettled-value, passed-by}
 use Rattle.equality.specs.Opens.{closedTerm}
@@ -101,10 +102,11 @@ pub table-says : {lots bytes : List ℕ} {table : ℕ} {ds : Decisions} → lots
 table-says {ds = ds} e m a b n =
     rw e (marks-at (rw e at m) _ _ (class-within (class-map ds) a) (class-within (class-map ds) b) (eqb-false _ _ n))
 
--- A term that the classes do not make true is not open, by these marks: it is "apart", or its classes are marked apart.
-abbrev pub closedBy : (ℕ → ℕ → Bool) → Term → Bool
-closedBy marks (same a b) = marks a b
-closedBy marks (apart a b) = true
+-- A term that the classes do not make true is open, by these marks: it is "same", and its classes are not marked apart. So a loop that leaves at the first
+-- open term has passed terms of which this is false (`Passing`).
+abbrev pub openBy : (ℕ → ℕ → Bool) → Term → Bool
+openBy marks (same a b) = not (marks a b)
+openBy marks (apart a b) = false
 
 -- A record's term by its sign.
 pub sign-same : (sign a b : ℕ) → sign ≡ 1 → termOf sign a b ≡ same a b
@@ -113,65 +115,26 @@ sign-same sign a b e = rw e
 pub sign-apart : (sign a b : ℕ) → sign ≢ 1 → termOf sign a b ≡ apart a b
 sign-apart sign a b n = rw (ne-eqb sign sameSign n)
 
--- Of the chain from record `from` on, the terms before record `at` are closed by the marks.
-pub record Opening (marks : ℕ → ℕ → Bool) (s : List ℕ) (from at : ℕ) : Type 0 where
-  pub within : at ≤ recordCount s
-  pub passed : List Term
-  pub closed : All (λ t. closedBy marks t ≡ true) passed
-  pub place : termsFrom s from ≡ passed ++ termsFrom s at
-
-pub opening-start : (marks : ℕ → ℕ → Bool) (s : List ℕ) (from : ℕ) → from ≤ recordCount s → Opening marks s from from
-opening-start marks s from h = record { within = h; passed = []; closed = tt; place = refl }
-
--- What a loop passes from where another has left follows what that one has passed.
-pub opening-through : {marks : ℕ → ℕ → Bool} {s : List ℕ} {from between at : ℕ} → Opening marks s from between → Opening marks s between at → Opening marks s from at
-opening-through {marks} {s} {at = at} k l =
-    record {
-      within = l .within;
-      passed = k .passed ++ l .passed;
-      closed = all-both (λ t. closedBy marks t ≡ true) (k .passed) (l .passed) (k .closed) (l .closed);
-      place =
-          k .place
-          ∙ ap (λ (ts : List Term). k .passed ++ ts) (l .place)
-          ∙ sym (append-assoc (k .passed) (l .passed) (termsFrom s at));
-    }
-
-module _ (marks : ℕ → ℕ → Bool) (s : List ℕ) (ok : Accepted s) (from at : ℕ) (l : Opening marks s from at) where
-  stepped : 1 ≤ at → termsFrom s from ≡ (l .passed ++ termAt s at ∷ []) ++ termsFrom s (nextAt s at)
-  stepped h =
-      l .place
-      ∙ ap (λ (ts : List Term). l .passed ++ ts) (terms-step s ok at h (l .within))
-      ∙ sym (append-assoc (l .passed) (termAt s at ∷ []) (termsFrom s (nextAt s at)))
-
-  -- A closed term is passed.
-  pub opening-next : 1 ≤ at → closedBy marks (termAt s at) ≡ true → Opening marks s from (nextAt s at)
-  opening-next h e =
-      record {
-        within = sound s ok .records at h (l .within) .next;
-        passed = l .passed ++ termAt s at ∷ [];
-        closed = all-both (λ t. closedBy marks t ≡ true) (l .passed) (termAt s at ∷ []) (l .closed) (e, tt);
-        place = stepped h;
-      }
-
+module _ (marks : ℕ → ℕ → Bool) (s : List ℕ) (ok : Accepted s) (from at : ℕ) (l : Passing (openBy marks) s from at) where
   -- For decisions that have these marks between classes, and do not make any of the terms true:
   module _ (ds : Decisions) (says : (a b : ℕ) → share ds a b ≡ false → marks a b ≡ markedApart ds a b) (none : NonePasses ds (termsFrom s from)) where
     values : All (λ t. value ds t ≡ openSame ds t) (l .passed ++ termsFrom s at)
     values = rw (l .place) at (open-values ds (termsFrom s from) none)
 
-    not-open : (t : Term) → closedBy marks t ≡ true → value ds t ≡ openSame ds t → value ds t ≢ isOpen
-    not-open (same a b) e v o = false-open (sym v ∙ o) (ap (λ p. cond p isFalse isOpen) (sym (says a b (unshared ds a b v)) ∙ e))
+    not-open : (t : Term) → openBy marks t ≡ false → value ds t ≡ openSame ds t → value ds t ≢ isOpen
+    not-open (same a b) e v o = false-open (sym v ∙ o) (ap (λ p. cond p isFalse isOpen) (sym (says a b (unshared ds a b v)) ∙ not-false (marks a b) e))
     not-open (apart a b) e v o = false-open (sym v ∙ o) refl
 
     none-passed : NoneOpen ds (l .passed)
-    none-passed = go (l .passed) (l .closed) (all-first _ (l .passed) (termsFrom s at) values)
+    none-passed = go (l .passed) (l .falses) (all-first _ (l .passed) (termsFrom s at) values)
       where
-        go : (ts : List Term) → All (λ t. closedBy marks t ≡ true) ts → All (λ t. value ds t ≡ openSame ds t) ts → NoneOpen ds ts
+        go : (ts : List Term) → All (λ t. openBy marks t ≡ false) ts → All (λ t. value ds t ≡ openSame ds t) ts → NoneOpen ds ts
         go [] e v = tt
         go (t ∷ ts) e v = (not-open t (e .0) (v .0), go ts (e .1) (v .1))
 
     -- they may be looked at from here on;
-    pub opening-passes : PassesTo s from at ds
-    opening-passes = record { within = l .within; passed = l .passed; place = l .place; closed = none-ground ds (l .passed) none-passed }
+    pub passed-resumes : PassesTo s from at ds
+    passed-resumes = record { within = l .within; passed = l .passed; place = l .place; closed = none-ground ds (l .passed) none-passed }
 
     -- where the chain ends, none is open;
     pub none-open : at ≡ 0 → (c : ℕ) → ground c ≡ groundOrSplit ds c (termsFrom s from)
@@ -200,7 +163,10 @@ module _ (marks : ℕ → ℕ → Bool) (s : List ℕ) (ok : Accepted s) (from a
         record {
           within = sound s ok .records at h (l .within) .next;
           passed = l .passed ++ termAt s at ∷ [];
-          place = stepped h;
+          place =
+              l .place
+              ∙ ap (λ (ts : List Term). l .passed ++ ts) (terms-step s ok at h (l .within))
+              ∙ sym (append-assoc (l .passed) (termAt s at ∷ []) (termsFrom s (nextAt s at)));
           closed =
               none-ground (apart a b ∷ ds) (l .passed ++ termAt s at ∷ [])
               (all-both _ (l .passed) (termAt s at ∷ []) (none-later ds a b (l .passed) none-passed) (rw t (pair-later ds a b), tt));

@@ -180,7 +180,7 @@ fn first_unmarked(
     ensures leaves { λ r. ⌜ ((ds : Decisions) → now (lots .entry) ≡ classes ds → Marks (now (pairs .entry)) table (now (lots .entry)) ds → ResumesWithin (now (sheet .entry)) (condition .0) (from .0) ds → Leaves (now (sheet .entry)) r ds) ⌝ }
 {
     let mut at = from;
-    // Records of a chain mostly follow each other in the sheet. Within such a run the next record is known before its number is read, and need not be waited for.
+    // In runs of records that follow each other, as the scan goes.
     'chain: while at.0 != 0 {
         loop {
             let following = at.0 + 1;

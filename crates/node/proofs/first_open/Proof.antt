@@ -1,13 +1,13 @@
 -- `node::first_open`: the terms that the loop has passed are closed by the marks; it leaves at the first that is not, and the terms from the record on decide
 -- what the node is, by the table where the loop has left them.
 use Prim.Native.Nat.{ℕ, _≤_, _<_}
-use mathlib.Core.Bool.{Bool, false}
+use mathlib.Core.Bool.{Bool, not, false}
 use mathlib.Core.List.{List, _∷_}
 use mathlib.Core.Logic.{⊎-elim}
 use mathlib.Core.Path.{_≡_, sym, ap, subst, _∙_}
 use native.Mathlib.Omega.{arith}
 use borrow.Author.Needs.{needs}
-use borrow.Author.Tests.{ltb-true, not-true, not-false}
+use borrow.Author.Tests.{ltb-true, not-true}
 use lib.ListN.{length}
 use Rattle.sheet.specs.declared.Term.{Term}
 use Rattle.sheet.specs.Format.{nextAt}
@@ -20,14 +20,15 @@ use Rattle.classes.specs.Pairs.{Represents}
 use Rattle.classes.proofs.Path.{marked-says}
 use Rattle.marks.specs.Marks.{walkLimit}
 use Rattle.marks.proofs.Bytes.{outside-none}
+use Rattle.equality.proofs.Passing.{Passing, passing-start, passing-next}
 use Rattle.node.specs.Place.{PassesTo, ResumesWithin}
-use Rattle.node.proofs.Opening.{marksOf, closedBy, sign-same, sign-apart, Opening, opening-start, opening-next, opening-passes, none-open, open-here, open-leaves}
+use Rattle.node.proofs.Opening.{marksOf, openBy, sign-same, sign-apart, passed-resumes, none-open, open-here, open-leaves}
 use Rattle.node.proofs.Resuming.{rest-decides, rest-passes, later-resumes, apart-resumes}
 use Rattle.node.proofs.first_open.Statement.{statement}
 use Rattle.node.proofs.first_open.Tie as tie
 
 abbrev Inv-loop : tie.InvT-loop
-Inv-loop sheet m map pairs count condition at₀ walked₀ at walked = Opening (marksOf (map .lots) pairs count) sheet (at₀ .0) (at .0)
+Inv-loop sheet m map pairs count condition at₀ walked₀ at walked = Passing (openBy (marksOf (map .lots) pairs count)) sheet (at₀ .0) (at .0)
 
 abbrev μ-loop : tie.MeasureT-loop
 μ-loop sheet m map pairs count condition at₀ walked₀ at walked = length (recordsFrom sheet (at .0))
@@ -80,13 +81,13 @@ place c = c .before .before .before .loop .at .0
 abbrev marks : Turn → ℕ → ℕ → Bool
 marks c = marksOf (begun c .args .map .lots) (begun c .args .pairs .now) (begun c .args .count)
 
-abbrev walked : (c : Turn) → Opening (marks c) (bytes c) (from c) (place c)
+abbrev walked : (c : Turn) → Passing (openBy (marks c)) (bytes c) (from c) (place c)
 walked c = c .before .before .before .loop .inv
 
 -- ---- the loop
 
 loop-holds : tie.Need-loop-holds Inv-loop μ-loop
-loop-holds c = opening-start _ _ _ (c .before .before .pre .2)
+loop-holds c = passing-start (openBy _) _ _ (c .before .before .pre .2)
 
 -- In a turn of the loop there is a record of the sheet's.
 record-number : (c : Turn) → 1 ≤ place c
@@ -134,12 +135,12 @@ loop-again : tie.Need-loop-again Inv-loop μ-loop
 loop-again c =
     let term = c .before .before .before in
     let d = turn term in
-    subst (λ (r : ℕ). Opening (marks d) (bytes d) (from d) r) (next-of term)
-    (opening-next _ (bytes d) (accepted d) (from d) (place d) (walked d) (record-number d)
-    (ap (closedBy (marks d)) (term-of term)
+    subst (λ (r : ℕ). Passing (openBy (marks d)) (bytes d) (from d) r) (next-of term)
+    (passing-next (openBy (marks d)) (bytes d) (accepted d) (from d) (place d) (walked d) (record-number d)
+    (ap (openBy (marks d)) (term-of term)
     ∙ ⊎-elim
-    (λ same-term. ap (closedBy (marks d)) (sign-same _ _ _ (same-term .0 .taken)) ∙ sym (same-term .4 .ensures .1) ∙ not-false _ (same-term .6 .left))
-    (λ apart-term. ap (closedBy (marks d)) (sign-apart _ _ _ (apart-term .0 .left)))
+    (λ same-term. ap (openBy (marks d)) (sign-same _ _ _ (same-term .0 .taken)) ∙ ap not (sym (same-term .4 .ensures .1)) ∙ same-term .6 .left)
+    (λ apart-term. ap (openBy (marks d)) (sign-apart _ _ _ (apart-term .0 .left)))
     (c .before .if3 .came)))
 
 -- ---- an open term
@@ -212,7 +213,7 @@ returns-3 c =
     → ResumesWithin s condition (at .at .0) ds =
     λ ds rep w.
     later-resumes s condition first ds w (at .at .0)
-    (opening-passes _ s (start .pre .0 .accepted) first (at .at .0) (at .inv) ds (λ u v n. marked-says rep u v) (rest-passes s condition first ds w)) in (
+    (passed-resumes _ s (start .pre .0 .accepted) first (at .at .0) (at .inv) ds (λ u v n. marked-says rep u v) (rest-passes s condition first ds w)) in (
       (λ ds rep w. done .by-table .ensures .0 ds rep (further ds rep w)),
       ((λ ds rep w. done .by-table .ensures .1 .0 ds rep (further ds rep w)), done .by-table .ensures .1 .1),
     )

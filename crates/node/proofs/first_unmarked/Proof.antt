@@ -1,12 +1,12 @@
 -- `node::first_unmarked`: the terms that the loop over a run of records has passed since the run began, and those that the loop over the runs has passed before, are
 -- closed by the table; the first that is not is where it leaves. The rest of the chain falls with each record, so it is shorter after a run than before.
 use Prim.Native.Nat.{ℕ, _+_, _≤_, _<_}
-use mathlib.Core.Bool.{Bool, false}
+use mathlib.Core.Bool.{Bool, not, false}
 use mathlib.Core.List.{List, _∷_}
 use mathlib.Core.Logic.{⊎-elim}
 use mathlib.Core.Path.{_≡_, sym, ap, subst, _∙_}
 use native.Mathlib.Omega.{arith}
-use borrow.Author.Tests.{not-true, not-false}
+use borrow.Author.Tests.{not-true}
 use lib.ListN.{length}
 use Rattle.sheet.specs.declared.Term.{Term}
 use Rattle.sheet.specs.Format.{mostLots, nextAt}
@@ -14,21 +14,22 @@ use Rattle.sheet.specs.Checks.{Accepted}
 use Rattle.sheet.specs.Conditions.{same, apart, termOf, termAt, recordsFrom}
 use Rattle.sheet.proofs.Accepted.{sound, has-record}
 use Rattle.sheet.proofs.ChainEnds.{rest-shorter}
+use Rattle.equality.proofs.Passing.{Passing, passing-start, passing-through, passing-next}
 use Rattle.node.specs.Place.{PassesTo}
-use Rattle.node.proofs.Opening.{tableOf, table-says, closedBy, sign-same, sign-apart, Opening, opening-start, opening-through, opening-next, none-open, open-here, open-leaves}
+use Rattle.node.proofs.Opening.{tableOf, table-says, openBy, sign-same, sign-apart, none-open, open-here, open-leaves}
 use Rattle.node.proofs.Resuming.{rest-decides, rest-passes, apart-resumes}
 use Rattle.node.proofs.first_unmarked.Statement.{statement}
 use Rattle.node.proofs.first_unmarked.Tie as tie
 
 abbrev Inv-loop : tie.InvT-loop
 Inv-loop sheet m lots pairs table condition at₀ at =
-    (1 ≤ at .0) × Opening (tableOf lots pairs table) sheet (at₀ .0) (at .0) × (length (recordsFrom sheet (at .0)) ≤ length (recordsFrom sheet (at₀ .0)))
+    (1 ≤ at .0) × Passing (openBy (tableOf lots pairs table)) sheet (at₀ .0) (at .0) × (length (recordsFrom sheet (at .0)) ≤ length (recordsFrom sheet (at₀ .0)))
 
 abbrev μ-loop : tie.MeasureT-loop
 μ-loop sheet m lots pairs table condition at₀ at = length (recordsFrom sheet (at .0))
 
 abbrev Inv-chain : tie.InvT-chain
-Inv-chain sheet m lots pairs table condition at₀ at = Opening (tableOf lots pairs table) sheet (at₀ .0) (at .0)
+Inv-chain sheet m lots pairs table condition at₀ at = Passing (openBy (tableOf lots pairs table)) sheet (at₀ .0) (at .0)
 
 abbrev μ-chain : tie.MeasureT-chain
 μ-chain sheet m lots pairs table condition at₀ at = length (recordsFrom sheet (at .0))
@@ -84,19 +85,19 @@ place c = c .before .loop .at .0
 abbrev marks : Turn → ℕ → ℕ → Bool
 marks c = tableOf (begun c .args .lots .now) (begun c .args .pairs .now) (begun c .args .table)
 
-abbrev walked : (c : Turn) → Opening (marks c) (bytes c) (run c) (place c)
+abbrev walked : (c : Turn) → Passing (openBy (marks c)) (bytes c) (run c) (place c)
 walked c = c .before .loop .inv .1
 
-all-walked : (c : Turn) → Opening (marks c) (bytes c) (from c) (place c)
-all-walked c = opening-through (chain c .chain .inv) (walked c)
+all-walked : (c : Turn) → Passing (openBy (marks c)) (bytes c) (from c) (place c)
+all-walked c = passing-through (chain c .chain .inv) (walked c)
 
 -- ---- the loops begin
 
 chain-holds : tie.Need-chain-holds Inv-loop μ-loop Inv-chain μ-chain
-chain-holds c = opening-start _ _ _ (c .before .before .before .pre .3)
+chain-holds c = passing-start (openBy _) _ _ (c .before .before .before .pre .3)
 
 loop-holds : tie.Need-loop-holds Inv-loop μ-loop Inv-chain μ-chain
-loop-holds c = (omega (arith, c .if1 .taken), opening-start _ _ _ (c .before .before .chain .inv .within), omega arith)
+loop-holds c = (omega (arith, c .if1 .taken), passing-start (openBy _) _ _ (c .before .before .chain .inv .within), omega arith)
 
 -- ---- a record
 
@@ -160,16 +161,16 @@ shorter c =
     (rest-shorter (bytes d) (accepted d) (place d) (record-number d) (walked d .within))
 
 -- and the terms since the run began are closed.
-passed : (c : Passed) → Opening (marks (turn (passed-read c))) (bytes (turn (passed-read c))) (run (turn (passed-read c))) (passed-read c .term-at .result .next .0)
+passed : (c : Passed) → Passing (openBy (marks (turn (passed-read c)))) (bytes (turn (passed-read c))) (run (turn (passed-read c))) (passed-read c .term-at .result .next .0)
 passed c =
     let term = passed-read c in
     let d = turn term in
-    subst (λ (r : ℕ). Opening (marks d) (bytes d) (run d) r) (next-of term)
-    (opening-next _ (bytes d) (accepted d) (run d) (place d) (walked d) (record-number d)
-    (ap (closedBy (marks d)) (term-of term)
+    subst (λ (r : ℕ). Passing (openBy (marks d)) (bytes d) (run d) r) (next-of term)
+    (passing-next (openBy (marks d)) (bytes d) (accepted d) (run d) (place d) (walked d) (record-number d)
+    (ap (openBy (marks d)) (term-of term)
     ∙ ⊎-elim
-    (λ same-term. ap (closedBy (marks d)) (sign-same _ _ _ (same-term .0 .taken)) ∙ sym (same-term .5 .ensures) ∙ not-false _ (same-term .6 .left))
-    (λ apart-term. ap (closedBy (marks d)) (sign-apart _ _ _ (apart-term .left)))
+    (λ same-term. ap (openBy (marks d)) (sign-same _ _ _ (same-term .0 .taken)) ∙ ap not (sym (same-term .5 .ensures)) ∙ same-term .6 .left)
+    (λ apart-term. ap (openBy (marks d)) (sign-apart _ _ _ (apart-term .left)))
     (c .if2 .came)))
 
 -- The run is over;
@@ -181,7 +182,7 @@ chain-less c =
 chain-again : tie.Need-chain-again Inv-loop μ-loop Inv-chain μ-chain
 chain-again c =
     let joined = c .before .before .before in
-    opening-through (chain (turn (passed-read joined)) .chain .inv) (passed joined)
+    passing-through (chain (turn (passed-read joined)) .chain .inv) (passed joined)
 
 -- or the record's next is the following one.
 following : (c : tie.Else4 Inv-loop μ-loop Inv-chain μ-chain) → passed-read (c .before .before) .term-at .result .next .0 ≡ place (turn (passed-read (c .before .before))) + 1
@@ -197,7 +198,7 @@ loop-again c =
     let joined = c .before .before in
     let d = turn (passed-read joined) in (
       omega arith,
-      subst (λ (r : ℕ). Opening (marks d) (bytes d) (run d) r) (following c) (passed joined),
+      subst (λ (r : ℕ). Passing (openBy (marks d)) (bytes d) (run d) r) (following c) (passed joined),
       omega (arith, loop-less c, d .before .loop .inv .2),
     )
 
