@@ -1,6 +1,6 @@
 -- Two-byte numbers (document 01, "The sheet", first sentence).
 use Prim.Native.Nat.{ℕ, _+_, _*_, _/_, _%_, _<_}
-use mathlib.Core.List.{List, [], _∷_}
+use mathlib.Core.List.{List, [], _∷_, _++_}
 use lib.ListN.{getD}
 
 -- "Two-byte numbers have the low byte first." The number at place i of the bytes s.
@@ -14,3 +14,7 @@ twoBytes x = x % 256 ∷ x / 256 % 256 ∷ []
 -- A number that has two bytes.
 abbrev pub TwoBytes : ℕ → Type 0
 TwoBytes x = x < 65536
+
+-- The first six bytes of a record, of a term or of a node: its sign or kind, a spare byte 0, and two numbers.
+abbrev pub fieldBytes : ℕ → ℕ → ℕ → List ℕ
+fieldBytes x first second = x ∷ 0 ∷ twoBytes first ++ twoBytes second

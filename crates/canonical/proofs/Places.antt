@@ -16,7 +16,7 @@ use Rattle.canonical.proofs.Chains.{RecordIs, Runs, Laid, first-within,
 -- ---- how many
 
 -- Eight bytes a term, in one chain and in all,
-length-chain : (r : ℕ) (ts : List Term) → length (chainRecords r ts) ≡ 8 * length ts
+pub length-chain : (r : ℕ) (ts : List Term) → length (chainRecords r ts) ≡ 8 * length ts
 unfolding chainRecords termRecord twoBytes
 length-chain r [] = refl
 length-chain r (t ∷ ts) = omega (arith, length-chain (suc r) ts)

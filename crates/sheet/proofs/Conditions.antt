@@ -50,9 +50,13 @@ module _ (s : List ℕ) where
 -- ---- the terms of an accepted sheet
 
 module _ (s : List ℕ) (ok : Accepted s) where
-  -- There are at most k terms.
+  -- There are k terms, since each record lies on exactly one chain, once;
+  pub terms-count : length (flatten (conditions s)) ≡ recordCount s
+  terms-count = rw (terms-all s) (length-map (allRecords s) (termAt s) ∙ records-length s ok)
+
+  -- so at most k, which is all that most laws need.
   pub terms-length : length (flatten (conditions s)) ≤ recordCount s
-  terms-length = rw (terms-all s) (omega (arith, length-map (allRecords s) (termAt s), records-length s ok))
+  terms-length = omega (arith, terms-count)
 
   -- The term of a record names lots of the sheet;
   pub term-in : (r : ℕ) → 1 ≤ r → r ≤ recordCount s → TermIn (lotCount s) (termAt s r)

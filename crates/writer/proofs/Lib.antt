@@ -1,0 +1,4 @@
+mod Stores
+pub mod Rooms
+pub mod Whole
+mod Adding
