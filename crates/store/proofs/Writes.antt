@@ -3,20 +3,18 @@ use Prim.Native.Nat.{ℕ, _+_, _*_, _-_}
 use mathlib.Core.List.{List, _∷_, _++_}
 use mathlib.Core.Path.{_≡_, refl, sym, ap, _∙_}
 use native.Mathlib.Omega.{arith}
-use native.Mathlib.Numerals.{add-one, add-two, add-four, add-six}
-use lib.ListN.{length, set}
+use lib.ListN.{length}
 use lib.Seq.{sets}
-use Rattle.buffers.specs.Bytes.{twoBytes}
+use Rattle.buffers.specs.Bytes.{twoBytes, fieldBytes}
 use Rattle.buffers.proofs.Sets.{sets-sets, sets-before, sets-again}
 use Rattle.store.specs.Records.{NodeRecord, splitRecord, recordLength, nextPlace, nextBytes, setNext, fields, encode}
 use Rattle.store.proofs.Codec.{encode-length}
 
--- The two bytes and the three numbers of a record, one after the other.
+-- The fields of a record, and its next behind them.
 pub fields-stored : (l : List ℕ) (at kind first second next : ℕ)
-    → sets (sets (sets (set (set l at kind) (at + 1) 0) (at + 2) (twoBytes first)) (at + 4) (twoBytes second)) (at + nextPlace) (nextBytes next)
-    ≡ sets l at (fields kind first second next)
+    → sets (sets l at (fieldBytes kind first second)) (at + nextPlace) (nextBytes next) ≡ sets l at (fields kind first second next)
 unfolding twoBytes
-fields-stored l at kind first second next = rw (add-one at, add-two at, add-four at, add-six at)
+fields-stored l at kind first second next = sets-sets (fieldBytes kind first second) (nextBytes next) l at
 
 -- Bytes after a record's.
 pub after-record : (r : NodeRecord) (bytes store : List ℕ) (before : ℕ)

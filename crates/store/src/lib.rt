@@ -72,10 +72,7 @@ fn put_fields(
         ≡ sets (now (store .entry)) (recordLength * (number .0 - 1)) (fields kind first second (next .0)) ⌝ }
 {
     let at = place_of(number);
-    store[at] = kind;
-    store[at + 1] = 0;
-    buffers::put_number(store, at + 2, first);
-    buffers::put_number(store, at + 4, second);
+    buffers::put_fields(store, at, kind, first, second);
     put_next(store, at, next);
 }
 
