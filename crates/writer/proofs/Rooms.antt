@@ -1,7 +1,7 @@
 -- Room for conditions and terms: each part takes its share, and no part changes the length of the bytes.
 use Prim.Native.Nat.{ℕ, suc, _+_, _*_, _≤_}
 use mathlib.Core.List.{List, [], _∷_, _++_}
-use mathlib.Core.Path.{_≡_, _∙_}
+use mathlib.Core.Path.{_≡_, refl, _∙_}
 use native.Mathlib.Omega.{arith}
 use lib.ListN.{length}
 use lib.Seq.{sets, length-sets}
@@ -20,6 +20,11 @@ length-term t d =
 
 pub length-condition : (d : Draft) → length (withCondition d .bytes) ≡ length (d .bytes)
 length-condition d = length-sets (d .bytes) (d .writer .head) (twoBytes 0)
+
+pub length-terms : (ts : List Term) (d : Draft) → length (withTerms ts d .bytes) ≡ length (d .bytes)
+unfolding withTerms
+length-terms [] d = refl
+length-terms (t ∷ ts) d = length-terms ts (withTerm t d) ∙ length-term t d
 
 -- ---- how much is left
 

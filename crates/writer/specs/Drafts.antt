@@ -1,6 +1,6 @@
 -- A canonical sheet that is being written, part by part. For the contracts of the parts; this file states nothing of the documents.
 use Prim.Native.Nat.{ℕ, _+_, _*_, _≤_}
-use mathlib.Core.List.{List, [], _∷_, _++_}
+use mathlib.Core.List.{List, [], _∷_, _++_, flatten}
 use mathlib.Core.Logic.{_⊎_}
 use mathlib.Core.Path.{_≡_}
 use lib.ListN.{length}
@@ -59,3 +59,7 @@ pub record RoomFor (c k : ℕ) (d : Draft) : Type 0 where
   pub leads : d .writer .link + 2 ≤ d .writer .place
   pub records : d .writer .place + 8 * k ≤ length (d .bytes)
   pub numbers : d .writer .number .0 + k ≤ mostRecords + 1
+
+-- Room for these conditions and all their terms.
+abbrev pub RoomForAll : List (List Term) → Draft → Type 0
+RoomForAll tss d = RoomFor (length tss) (length (flatten tss)) d

@@ -3,13 +3,19 @@
 ghost use mathlib.Core.Path.{_≡_};
 ghost use Prim.Native.Nat.{_+_, _*_, _≤_};
 ghost use lib.ListN.{length};
-ghost use Rattle.sheet.specs.Format.{mostConditions, headerLength, recordCount, conditionCount};
+ghost use Rattle.sheet.specs.Format.{mostConditions, headerLength, recordCount, conditionCount, sheetLength};
 ghost use Rattle.sheet.specs.Conditions.{termOf, termsFrom, conditionAt};
 ghost use Rattle.sheet.specs.Inner.{HasConditions};
 ghost use Rattle.writer.specs.Drafts.{draft, begun, withCondition, withTerm, withTerms, KnownSign, RoomFor};
 use sheet::Condition;
 use sheet::Lot;
 use sheet::Record;
+
+// What a writer of sheets answers: the length that it wrote, or a refusal, on which nothing is written.
+pub enum WriteAnswer {
+    Written { length: u32 },
+    Refused { check: u32, place: u32 },
+}
 
 // Where a writer stands in the bytes that it writes.
 pub struct Writer {
@@ -20,6 +26,13 @@ pub struct Writer {
     pub number: Record,
     // Where the number of the next term's record goes: the latest condition's head, or the next of its last record.
     pub link: usize,
+}
+
+// The length of a sheet with so many conditions and terms.
+pub fn length_of(m: u16, k: u16) -> u32
+    ensures { λ r. ⌜ r ≡ sheetLength m k ⌝ }
+{
+    6 + 2 * (m as u32) + 8 * (k as u32)
 }
 
 // Writes the header. Behind it come the heads of m conditions, and behind these the records.

@@ -1,0 +1,72 @@
+-- Sheets that say the same are answered alike by every service. Nothing here asks how the records stand, or what a condition with no term counts for.
+use Prim.Native.Nat.{ℕ}
+use mathlib.Core.List.{List, [], _∷_, _++_}
+use mathlib.Core.Path.{_≡_, refl, sym, ap, fun-ext, _∙_}
+use lib.ListN.{length}
+use Rattle.sheet.specs.declared.Verdict.{Verdict}
+use Rattle.sheet.specs.Format.{conditionCount, recordCount}
+use Rattle.sheet.specs.Checks.{firstRefusal, sheetChecks}
+use Rattle.sheet.specs.Answers.{readAnswer}
+use Rattle.sheet.proofs.Further.{further-accepted}
+use Rattle.sheet.proofs.Conditions.{conditions-length, terms-count}
+use Rattle.equality.specs.Evaluator.{check8, groupingVerdict, evaluateAnswer}
+use Rattle.store.specs.Records.{NodeRecord, splitRecord, groundRecord, metRecord, noRecord, recordsOf}
+use Rattle.refutation.specs.Refutation.{Split, walkRecord, walkFrom, check10, walkVerdict, listVerdict, checkAnswer}
+use Rattle.outcome.specs.Outcome.{searchOutcome}
+use Rattle.repack.specs.Promises.{Alike, ServedAlike}
+
+module _ (s t : List ℕ) (alike : Alike s t) where
+  -- They have as many conditions, and as many records, since each record lies on a chain.
+  alike-conditions : conditionCount s ≡ conditionCount t
+  alike-conditions = sym (conditions-length s) ∙ ap length (alike .lists) ∙ conditions-length t
+
+  alike-records : recordCount s ≡ recordCount t
+  alike-records = sym (terms-count s (alike .first)) ∙ rw (alike .lists) (terms-count t (alike .second))
+
+  -- Further checks decide, where these say the same of both.
+  alike-further : (vs ws : List Verdict) → firstRefusal vs ≡ firstRefusal ws → firstRefusal (sheetChecks s ++ vs) ≡ firstRefusal (sheetChecks t ++ ws)
+  alike-further vs ws e = further-accepted s vs (alike .first) ∙ e ∙ sym (further-accepted t ws (alike .second))
+
+  alike-read : readAnswer s ≡ readAnswer t
+  unfolding readAnswer
+  alike-read = rw (alike .first, alike .second, alike .lots, alike-conditions, alike-records)
+
+  -- ---- evaluator and search
+
+  alike-grouping : (grouping : List ℕ) → groupingVerdict s grouping ≡ groupingVerdict t grouping
+  unfolding groupingVerdict check8
+  alike-grouping grouping = alike-further (check8 s grouping ∷ []) (check8 t grouping ∷ []) (rw (alike .lots))
+
+  alike-evaluate : (grouping : List ℕ) → evaluateAnswer s grouping ≡ evaluateAnswer t grouping
+  unfolding evaluateAnswer
+  alike-evaluate grouping = rw (alike-grouping grouping, alike .lists)
+
+  -- The answer and both buffers.
+  alike-search : (grouping store : List ℕ) → searchOutcome s grouping store ≡ searchOutcome t grouping store
+  unfolding searchOutcome
+  alike-search grouping store = rw (alike-grouping grouping, alike .lots, alike .lists)
+
+  -- ---- refutation checker
+
+  alike-walk : (list : List NodeRecord) → walkFrom s list ≡ walkFrom t list
+  unfolding walkFrom
+  alike-walk [] = refl
+  alike-walk (r ∷ rest) = fun-ext (λ (at : ℕ). fun-ext (λ (above : List Split). go r at above (alike-walk rest)))
+    where
+      go : (r : NodeRecord) (at : ℕ) (above : List Split) {walk other : ℕ → List Split → Verdict} → walk ≡ other
+          → walkRecord s walk rest at above r ≡ walkRecord t other rest at above r
+      go (splitRecord a b next) at above e = rw (alike .lots, e)
+      go (groundRecord c) at above e = rw (alike-conditions, alike .lists, e)
+      go metRecord at above e = refl
+      go noRecord at above e = refl
+
+  alike-check : (list : List ℕ) → checkAnswer s list ≡ checkAnswer t list
+  unfolding checkAnswer listVerdict walkVerdict
+  alike-check list =
+      rw (alike-further (check10 list ∷ walkVerdict s list ∷ []) (check10 list ∷ walkVerdict t list ∷ [])
+      (ap (λ (w : ℕ → List Split → Verdict). firstRefusal (check10 list ∷ w 1 [] ∷ [])) (alike-walk (recordsOf list))))
+
+  -- ---- all of them
+
+  pub served-alike : ServedAlike s t
+  served-alike = record { reads = alike-read; searches = alike-search; checks = alike-check; evaluates = alike-evaluate }

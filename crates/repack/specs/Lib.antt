@@ -1,0 +1,3 @@
+pub mod Repack
+pub mod Promises
+pub mod Examples
