@@ -1,7 +1,7 @@
 -- What the services promise of their answers, carried over to the answers' numbers.
 use Prim.Native.Nat.{ℕ, _*_, _≤_}
 use mathlib.Core.List.{List}
-use mathlib.Core.Path.{_≡_, refl, ap, _∙_}
+use mathlib.Core.Path.{_≡_, refl, sym, ap, _∙_}
 use native.Mathlib.Omega.{arith}
 use lib.ListN.{take}
 use Rattle.sheet.specs.declared.Verdict.{Verdict}
@@ -24,8 +24,11 @@ use Rattle.lihumbay.proofs.Numbered.{list-numbered}
 use Rattle.checker.specs.declared.CheckAnswer.{CheckAnswer}
 use Rattle.checker.specs.declared.CheckAnswer.the-variants as check
 use Rattle.checker.specs.Answers.{checkedAnswer, PassedExactly, PassedMeans}
+use Rattle.writer.specs.Answers.{OfWritten}
+use Rattle.repack.specs.Repack.{repackedLength, repackVerdict, repackAnswer}
+use Rattle.repack.proofs.Answering.{repack-numbered}
 use Rattle.lihumbay.specs.Answers.{numbersOf}
-use Rattle.lihumbay.specs.Promises.{ZeroExactly, NineExactly, OneExactly, OneMeets, TwoExactly, TwoRefutes, NodesBounded, FirstUnmet, ZeroPassed, ZeroMeans}
+use Rattle.lihumbay.specs.Promises.{ZeroExactly, NineExactly, OneExactly, OneMeets, TwoExactly, TwoRefutes, NodesBounded, FirstUnmet, ZeroPassed, ZeroMeans, ZeroWritten}
 
 -- The refusal of an answer is its verdict's.
 answer-refuses : (v : Verdict) (first second third : ℕ) {check place : ℕ} → refused check place ≡ answerOf v (answered first second third) → v ≡ Refuses check place
@@ -109,3 +112,13 @@ module _ (s list : List ℕ) where
   pub zero-means : (a : CheckAnswer) → checkedAnswer a ≡ checkAnswer s list → PassedMeans a s → ZeroMeans (numbersOf (checkedAnswer a)) s
   zero-means check.Passed answer means = λ z. means refl
   zero-means (check.Refused number place) answer means = λ z. absurd (omega (arith, z, list-first number place answer))
+
+-- ---- writers of sheets
+
+pub zero-written : (P : List ℕ → Type 0) (out′ : List ℕ) (a : Answer) → First a → OfWritten P a out′ → ZeroWritten P (numbersOf a) out′
+zero-written P out′ (refused check place) number holds = λ z. absurd (omega (arith, z, number check place refl))
+zero-written P out′ (answered first second third) number holds = λ z. holds
+
+pub repack-first : (s out : List ℕ) (a : Answer) → a ≡ repackAnswer s out → First a
+unfolding repackAnswer
+repack-first s out a answer check place e = refusal-number (repack-numbered s out) (answer-refuses (repackVerdict s out) (repackedLength s) 0 0 (sym e ∙ answer)) .0

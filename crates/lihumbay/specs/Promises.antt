@@ -55,3 +55,7 @@ ZeroPassed r s list = r .check ≡ 0 ↔ Refutes s list
 -- and then nobody can meet the sheet, whatever the list and from whichever hand.
 abbrev pub ZeroMeans : Numbers → List ℕ → Type 0
 ZeroMeans r s = r .check ≡ 0 → (f : ℕ → ℕ) → ¬ Meets f s
+
+-- Of a service that writes a sheet: where no check refuses, P holds of what was written, the first bytes of the output as it is at exit.
+abbrev pub ZeroWritten : (List ℕ → Type 0) → Numbers → List ℕ → Type 0
+ZeroWritten P r out′ = r .check ≡ 0 → P (take (r .first) out′)

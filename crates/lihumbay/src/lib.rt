@@ -7,12 +7,16 @@ ghost use Rattle.outcome.specs.Outcome.{searchOutcome};
 ghost use Rattle.search.specs.Answers.{searchAnswer};
 ghost use Rattle.refutation.specs.Refutation.{checkAnswer};
 ghost use Rattle.checker.specs.Answers.{checkedAnswer};
+ghost use Rattle.writer.specs.Answers.{writtenAnswer};
+ghost use Rattle.repack.specs.Repack.{repacked, repackAnswer, repackOut};
+ghost use Rattle.repack.specs.Promises.{Alike, ServedAlike};
 ghost use Rattle.lihumbay.specs.Answers.{numbersOf};
-ghost use Rattle.lihumbay.specs.Promises.{ZeroExactly, NineExactly, OneExactly, OneMeets, TwoExactly, TwoRefutes, NodesBounded, FirstUnmet, ZeroPassed, ZeroMeans};
+ghost use Rattle.lihumbay.specs.Promises.{ZeroExactly, NineExactly, OneExactly, OneMeets, TwoExactly, TwoRefutes, NodesBounded, FirstUnmet, ZeroPassed, ZeroMeans, ZeroWritten};
 use checker::CheckAnswer;
 use evaluator::Evaluation;
 use search::SearchAnswer;
 use sheet::Reading;
+use writer::WriteAnswer;
 
 // An answer: the check that refused, 0 where none did, then the place, or the values.
 #[repr(C)]
@@ -88,6 +92,15 @@ fn of_check(answer: CheckAnswer) -> Numbers
     }
 }
 
+fn of_written(answer: WriteAnswer) -> Numbers
+    ensures { λ r. ⌜ r ≡ numbersOf (writtenAnswer answer) ⌝ }
+{
+    match answer {
+        WriteAnswer::Refused { check, place } => refused(check, place),
+        WriteAnswer::Written { length } => answered(length, 0, 0),
+    }
+}
+
 // The reader: lots, conditions and terms.
 #[no_mangle]
 pub extern "C" fn lihumbay_read(sheet: &[u8]) -> Numbers
@@ -130,4 +143,16 @@ pub extern "C" fn lihumbay_check(sheet: &[u8], list: &[u8]) -> Numbers
     ensures meaning { λ r. ⌜ ZeroMeans r (now (sheet .entry)) ⌝ }
 {
     of_check(checker::check(sheet, list))
+}
+
+// Repacking: how many bytes of the output were written.
+#[no_mangle]
+pub extern "C" fn lihumbay_repack(sheet: &[u8], out: &mut [u8]) -> Numbers
+    ensures answer { λ r. ⌜ r ≡ numbersOf (repackAnswer (now (sheet .entry)) (now (out .entry))) ⌝ }
+    ensures output { λ r. ⌜ now (out .exit) ≡ repackOut (now (sheet .entry)) (now (out .entry)) ⌝ }
+    ensures says { λ r. ⌜ ZeroWritten (λ w. Alike w (now (sheet .entry))) r (now (out .exit)) ⌝ }
+    ensures again { λ r. ⌜ ZeroWritten (λ w. repacked w ≡ w) r (now (out .exit)) ⌝ }
+    ensures alike { λ r. ⌜ ZeroWritten (λ w. ServedAlike w (now (sheet .entry))) r (now (out .exit)) ⌝ }
+{
+    of_written(repack::repack(sheet, out))
 }

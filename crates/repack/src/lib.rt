@@ -2,10 +2,10 @@
 ghost use mathlib.Core.Path.{_≡_};
 ghost use Rattle.sheet.specs.Conditions.{conditions};
 ghost use Rattle.sheet.specs.Inner.{HasConditions};
-ghost use Rattle.writer.specs.Answers.{writtenAnswer};
+ghost use Rattle.writer.specs.Answers.{writtenAnswer, OfWritten};
 ghost use Rattle.writer.specs.Drafts.{draft, withConditions, RoomForAll};
-ghost use Rattle.repack.specs.Repack.{repackAnswer, repackOut};
-ghost use Rattle.repack.specs.Promises.{SaysTheSame, RepackedAgain, AnsweredAlike};
+ghost use Rattle.repack.specs.Repack.{repacked, repackAnswer, repackOut};
+ghost use Rattle.repack.specs.Promises.{Alike, ServedAlike};
 use sheet::Condition;
 use sheet::Reading;
 use writer::WriteAnswer;
@@ -25,13 +25,14 @@ fn add_conditions(sheet: &[u8], m: u16, out: &mut [u8], w: Writer) -> Writer
     next
 }
 
-// Repacks a sheet, for any bytes and any buffer at all. The sheet is read by the reader, and its chains once more by the writer.
+// Repacks a sheet, for any bytes and any buffer at all. What is written says what the sheet says, stays as it is when it is repacked again, and is answered by
+// every service as the sheet is. The sheet is read by the reader, and its chains once more by the writer.
 pub fn repack(sheet: &[u8], out: &mut [u8]) -> WriteAnswer
     ensures answer { λ r. ⌜ writtenAnswer r ≡ repackAnswer (now (sheet .entry)) (now (out .entry)) ⌝ }
     ensures output { λ r. ⌜ now (out .exit) ≡ repackOut (now (sheet .entry)) (now (out .entry)) ⌝ }
-    ensures says { λ r. ⌜ SaysTheSame (writtenAnswer r) (now (sheet .entry)) (now (out .exit)) ⌝ }
-    ensures again { λ r. ⌜ RepackedAgain (writtenAnswer r) (now (out .exit)) ⌝ }
-    ensures alike { λ r. ⌜ AnsweredAlike (writtenAnswer r) (now (sheet .entry)) (now (out .exit)) ⌝ }
+    ensures says { λ r. ⌜ OfWritten (λ w. Alike w (now (sheet .entry))) (writtenAnswer r) (now (out .exit)) ⌝ }
+    ensures again { λ r. ⌜ OfWritten (λ w. repacked w ≡ w) (writtenAnswer r) (now (out .exit)) ⌝ }
+    ensures alike { λ r. ⌜ OfWritten (λ w. ServedAlike w (now (sheet .entry))) (writtenAnswer r) (now (out .exit)) ⌝ }
 {
     let reading = sheet::read(sheet);
     match reading {
