@@ -1,10 +1,13 @@
 -- `repack::add_conditions`: the conditions that are left, added to what there is now, come to all of them.
-use Prim.Native.Nat.{_-_, _<_}
+use Prim.Native.Nat.{ℕ, _-_, _<_}
+use mathlib.Core.Path.{sym, subst}
 use native.Mathlib.Numerals.{add-one}
 use native.Mathlib.Omega.{arith}
+use lib.ListN.{length}
 use Rattle.sheet.specs.Format.{conditionCount}
+use Rattle.sheet.specs.Conditions.{conditionAt}
 use Rattle.sheet.proofs.Accepted.{sound}
-use Rattle.writer.specs.Drafts.{draft}
+use Rattle.writer.specs.Drafts.{draft, RoomFor}
 use Rattle.repack.proofs.Packing.{Packing, packing-start, packing-room, packing-next, packing-end}
 use Rattle.repack.proofs.add_conditions.Statement.{statement}
 use Rattle.repack.proofs.add_conditions.Tie as tie
@@ -33,7 +36,13 @@ add-c c = omega (arith, below c, sound (begun c .args .sheet .now) (begun c .pre
 add-condition-requires : tie.Need-add-condition-requires Inv-loop μ-loop
 add-condition-requires c κs =
     let turn = c .before in
-    (begun turn .pre .0, omega arith, omega (arith, below turn), rw (add-one (turn .before .loop .c)) (packing-room (turn .before .loop .inv) (below turn)))
+    let l = turn .before .loop in
+    let one = sym (add-one (l .c)) in (
+      begun turn .pre .0,
+      omega arith,
+      omega (arith, below turn),
+      subst (λ (i : ℕ). RoomFor 1 (length (conditionAt (begun turn .args .sheet .now) i)) (draft (l .out) (l .next))) one (packing-room (l .inv) (below turn)),
+    )
 
 loop-less : tie.Need-loop-less Inv-loop μ-loop
 loop-less c = omega (arith, c .before .before .before .before .loop-test .taken)

@@ -1,9 +1,9 @@
 -- `writer::add_chain`: the terms that are left, added to what there is now, come to all of them; what is left of the chain falls.
-use Prim.Native.Nat.{_≤_}
-use mathlib.Core.List.{List}
-use mathlib.Core.Path.{_≡_}
+use Prim.Native.Nat.{_≤_, _<_}
+use mathlib.Core.Path.{sym, subst}
 use native.Mathlib.Omega.{arith}
 use lib.ListN.{length}
+use Rattle.sheet.specs.declared.Term.{Term}
 use Rattle.sheet.specs.Conditions.{recordsFrom}
 use Rattle.sheet.proofs.Accepted.{has-record, sound}
 use Rattle.sheet.proofs.ChainEnds.{rest-shorter}
@@ -50,8 +50,10 @@ loop-less : tie.Need-loop-less Inv-loop μ-loop
 loop-less c =
     let term = c .before .before .before .before .before in
     let l = term .before .before .before in
-    rw (term .term-at .ensures)
-    (rest-shorter (begun l .args .sheet .now) (begun l .pre .0 .accepted) (l .loop .at .0) (record-number (term .before)) (l .loop .inv .within))
+    let s = begun l .args .sheet .now in
+    let r = l .loop .at .0 in
+    subst (λ (t : Term). length (recordsFrom s (t .next .0)) < length (recordsFrom s r)) (sym (term .term-at .ensures))
+    (rest-shorter s (begun l .pre .0 .accepted) r (record-number (term .before)) (l .loop .inv .within))
 
 loop-again : tie.Need-loop-again Inv-loop μ-loop
 loop-again c =
