@@ -12,7 +12,7 @@ pub fn refuse<T>(check: u32, place: usize) -> Result<T, Refusal> {
     Err(Refusal { check, place })
 }
 
-/// The answers of the four services.
+/// The answers of the services.
 #[derive(Clone, Copy, Debug, PartialEq, Eq)]
 pub enum Answer {
     /// "the reader then answers n, m and k"
@@ -36,6 +36,10 @@ pub enum Answer {
     },
     /// "A list passes when its walk ends there and no check has refused it."
     Passes,
+    /// Document 02: "each answers the length it wrote"
+    Written {
+        length: usize,
+    },
 }
 
 /// The four numbers that the header describes: check, first, second, third.
@@ -46,6 +50,7 @@ pub fn numbers(answer: &Result<Answer, Refusal>) -> [u32; 4] {
         Ok(Answer::Cannot { count }) => [0, 2, count, 0],
         Ok(Answer::AllMet) | Ok(Answer::Passes) => [0, 0, 0, 0],
         Ok(Answer::NotMet { condition }) => [0, condition, 0, 0],
+        Ok(Answer::Written { length }) => [0, length, 0, 0],
         Err(Refusal { check, place }) => [check as usize, place, 0, 0],
     };
     let narrow = |number: usize| u32::try_from(number).expect("no number of an answer is above 65,536");

@@ -1,4 +1,4 @@
-//! The bytes of a sheet, for tests: records in the order of the conditions, or in any order.
+//! The bytes of a sheet: canonical, in the order of document 02's job 1, or for tests with the records in any order.
 use crate::limits::{APART, SAME, TERM_LENGTH};
 use crate::sheet::{Sign, Term};
 
@@ -10,7 +10,7 @@ pub fn apart(a: usize, b: usize) -> Term {
     Term { sign: Sign::Apart, a, b }
 }
 
-/// The sheet whose term records stand in the order of the conditions and their terms.
+/// "Fix the order: the records of condition 1 first, in chain order, then condition 2, and so on, each chain running through neighbouring numbers."
 pub fn sheet_bytes(lots: usize, conditions: &[Vec<Term>]) -> Vec<u8> {
     let terms = conditions.iter().map(Vec::len).sum();
     let order: Vec<usize> = (1..=terms).collect();
