@@ -2,7 +2,7 @@
    Rust", says how to build the archive; docs/FORMAT.md has the bytes of sheets, groupings, stores and lists, with examples.
 
    Buffers. Each is a pointer and then its length in bytes. A pointer is not null, also where the length is 0. Bytes need no alignment. A buffer that is
-   written (grouping and store of a search) overlaps no other buffer of the call; buffers that are only read may overlap each other.
+   written (grouping and store of a search, output of the repacker) overlaps no other buffer of the call; buffers that are only read may overlap each other.
 
    Limits. A sheet has at most 128 lots, 256 conditions and 1,024 term records, so at most 8,710 bytes. A record of a store or list has 8 bytes; a store holds
    its length divided by 8, rounded down, at most 65,535 records; a list has at most 65,535. Nothing has to be checked beforehand: what is wrong is refused.
@@ -38,7 +38,8 @@ extern "C" {
       12  a term of the ground's condition isn't false                  the record
       13  the split's next isn't the record where its second branch begins   the split
       14  a record is left over, or the next one is missing             its number
-      15  1,024 splits stand above the split                            the record */
+      15  1,024 splits stand above the split                            the record
+      16  the output is shorter than the packed sheet                   the packed sheet's length */
 typedef struct {
     uint32_t check;
     uint32_t first;
@@ -63,6 +64,13 @@ lihumbay_numbers lihumbay_evaluate(const uint8_t *sheet, size_t sheet_length, co
 /* The refutation checker: 0, 0, 0 where the list, records from any hand, is a refutation of the sheet; then nobody can meet the sheet. The search's own is the
    first 8 * count bytes of its store where it answers 2. Checks 1 to 7 and 10 to 15. */
 lihumbay_numbers lihumbay_check(const uint8_t *sheet, size_t sheet_length, const uint8_t *list, size_t list_length);
+
+/* The repacker: the bytes written, then 0, 0. Checks 1 to 7 and 16; an output of 8,710 bytes is never too short.
+   The first `first` bytes of out are written: the sheet with the records of condition 1 first, in the order of its chain, then those of condition 2, and so on.
+   Sheets with equal lots and equal conditions give equal bytes, two that differ never do, and a packed sheet changes no byte. All services answer the packed
+   sheet as they answer the sheet.
+   No other byte of out is written, and on a refusal none is. */
+lihumbay_numbers lihumbay_repack(const uint8_t *sheet, size_t sheet_length, uint8_t *out, size_t out_length);
 
 #ifdef __cplusplus
 }

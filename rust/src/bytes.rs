@@ -10,7 +10,7 @@ const SIGN_APART: u8 = 2;
 
 impl Sheet {
     /// The canonical bytes: the records of condition 1 first, in order, then those of condition 2, and so on, so that each chain runs through neighbouring
-    /// records. Two sheets have the same bytes only if they are the same.
+    /// records. Two sheets have the same bytes only if they are the same. [`repack`](crate::repack) writes them from bytes in another order.
     ///
     /// ```
     /// let sheet: lihumbay::Sheet = "apart 1 2".parse()?;
@@ -102,12 +102,12 @@ mod tests {
     use crate::sheet::SheetBuilder;
 
     /// Sheet C with records 1, 2, 3 at places 3, 1, 2.
-    const SHUFFLED: [u8; 34] = [3, 0, 2, 0, 3, 0, 3, 0, 2, 0, 1, 0, 1, 0, 3, 0, 0, 0, 2, 0, 1, 0, 2, 0, 0, 0, 1, 0, 1, 0, 2, 0, 1, 0];
+    const SHUFFLED: &[u8] = include_bytes!("../../samples/c-in-another-order.sheet");
 
     #[test]
     fn records_in_any_order_become_canonical() {
         let canonical: &[u8] = include_bytes!("../../samples/c.sheet");
-        let sheet = Sheet::from_bytes(&SHUFFLED).unwrap();
+        let sheet = Sheet::from_bytes(SHUFFLED).unwrap();
         assert_eq!(sheet, Sheet::from_bytes(canonical).unwrap());
         assert_eq!(sheet.to_bytes(), canonical);
     }

@@ -1,8 +1,9 @@
 //! A verified solver for equality conditions: safe functions over the proved services.
 //!
-//! A *sheet* has lots 1 to n and conditions, each a choice of terms "lots a and b the same" or "lots a and b apart". Four services take its bytes:
-//! [`read`] accepts or refuses them, [`search`] finds a grouping that meets every condition or a refutation, [`check`] checks a refutation from any hand, and
-//! [`evaluate`] says whether a grouping meets the sheet. What they answer is proved; the types here only give the numbers and bytes their names.
+//! A *sheet* has lots 1 to n and conditions, each a choice of terms "lots a and b the same" or "lots a and b apart". Five services take its bytes:
+//! [`read`] accepts or refuses them, [`search`] finds a grouping that meets every condition or a refutation, [`check`] checks a refutation from any hand,
+//! [`evaluate`] says whether a grouping meets the sheet, and [`repack`] puts the records in order, so that equal conditions are equal bytes. What they answer
+//! is proved; the types here only give the numbers and bytes their names.
 //!
 //! ```
 //! use lihumbay::{SheetBuilder, Term, Verdict};
@@ -34,6 +35,7 @@ pub mod raw;
 mod record;
 mod records;
 mod refusal;
+mod repack;
 mod search;
 mod services;
 mod sheet;
@@ -48,6 +50,7 @@ pub use list::RecordList;
 pub use record::Record;
 pub use records::{RecordError, Records};
 pub use refusal::{Check, Refusal, Subject};
+pub use repack::{repack, repack_into};
 pub use search::{Verdict, search, search_into, search_within};
 pub use services::{Evaluation, Reading, check, evaluate, read};
 pub use sheet::{LimitError, Sheet, SheetBuilder};

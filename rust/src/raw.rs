@@ -1,4 +1,4 @@
-//! The four services as the archive has them: slices in, four numbers out. Each call is safe, since a Rust slice is what the archive asks of its pointers: not
+//! The services as the archive has them: slices in, four numbers out. Each call is safe, since a Rust slice is what the archive asks of its pointers: not
 //! null, of the length given, and, where it is written, apart from the others. A call touches only what it is lent.
 
 /// An answer. `check` is 0, and the others are the values that the service gives; or it is the number of the check that refused, and `first` its place.
@@ -27,6 +27,7 @@ unsafe extern "C" {
     ) -> Numbers;
     fn lihumbay_evaluate(sheet: *const u8, sheet_length: usize, grouping: *const u8, grouping_length: usize) -> Numbers;
     fn lihumbay_check(sheet: *const u8, sheet_length: usize, list: *const u8, list_length: usize) -> Numbers;
+    fn lihumbay_repack(sheet: *const u8, sheet_length: usize, out: *mut u8, out_length: usize) -> Numbers;
 }
 
 /// The reader: lots, conditions, terms.
@@ -51,4 +52,10 @@ pub fn evaluate(sheet: &[u8], grouping: &[u8]) -> Numbers {
 pub fn check(sheet: &[u8], list: &[u8]) -> Numbers {
     // SAFETY: as in `read`.
     unsafe { lihumbay_check(sheet.as_ptr(), sheet.len(), list.as_ptr(), list.len()) }
+}
+
+/// The repacker: the bytes written. Check 16: the output is shorter than the packed sheet, whose length is the place.
+pub fn repack(sheet: &[u8], out: &mut [u8]) -> Numbers {
+    // SAFETY: as in `search`.
+    unsafe { lihumbay_repack(sheet.as_ptr(), sheet.len(), out.as_mut_ptr(), out.len()) }
 }

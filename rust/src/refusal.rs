@@ -4,7 +4,7 @@ use crate::raw::Numbers;
 use std::error::Error;
 use std::fmt;
 
-/// A check of document 01's table, known by its number.
+/// A check of documents 01 and 02, known by its number.
 #[derive(Clone, Copy, Debug, PartialEq, Eq, PartialOrd, Ord, Hash)]
 pub struct Check(u32);
 
@@ -20,6 +20,8 @@ pub enum Subject {
     Store,
     /// The list given to the refutation checker.
     List,
+    /// The output lent for a sheet.
+    Output,
 }
 
 /// A service's refusal: the first check that failed, and its place as the table gives it. Further fields may come.
@@ -48,6 +50,7 @@ enum Place {
     Lots,
     Records,
     ListRecord,
+    Bytes,
     Unknown,
 }
 
@@ -62,7 +65,7 @@ const fn row(number: u32, subject: Subject, place: Place, when: &'static str) ->
     Row { number, subject, place, when }
 }
 
-/// The table of document 01. A check that isn't here comes from a later archive, and gets a general sentence.
+/// The table of document 01, and the checks of document 02. A check that isn't here comes from a later archive, and gets a general sentence.
 const TABLE: &[Row] = &[
     row(1, Subject::Sheet, Place::None, "the sheet is shorter than its header of 6 bytes"),
     row(2, Subject::Sheet, Place::Count, "a number in the header is above its most"),
@@ -84,6 +87,7 @@ const TABLE: &[Row] = &[
     row(13, Subject::List, Place::ListRecord, "a split's next isn't the record where its apart branch begins"),
     row(14, Subject::List, Place::ListRecord, "a record is left over, or missing"),
     row(15, Subject::List, Place::ListRecord, "too many splits stand above a split"),
+    row(16, Subject::Output, Place::Bytes, "the output is shorter than the packed sheet"),
 ];
 
 const _: () = assert!(HEADER_LENGTH == 6, "check 1's sentence names the length");
@@ -147,6 +151,7 @@ impl fmt::Display for Refusal {
             (Place::TermRecord | Place::ListRecord, _) => write!(f, ": record {place}"),
             (Place::Lots, _) => write!(f, ": lots {place}"),
             (Place::Records, _) => write!(f, ": records {place}"),
+            (Place::Bytes, _) => write!(f, ": bytes {place}"),
             (Place::Count | Place::Unknown, _) => write!(f, ": place {place}"),
         }
     }
@@ -164,7 +169,7 @@ mod tests {
 
     #[test]
     fn the_table_has_each_check_once_in_order() {
-        assert!(TABLE.iter().map(|row| row.number).eq(1..=15));
+        assert!(TABLE.iter().map(|row| row.number).eq(1..=16));
     }
 
     #[test]
@@ -174,6 +179,7 @@ mod tests {
         assert_eq!(text(8, 5), "check 8, the grouping is shorter than the number of lots: lots 5");
         assert_eq!(text(9, 0), "check 9, the store is full: records 0");
         assert_eq!(text(14, 6), "check 14, a record is left over, or missing: record 6");
+        assert_eq!(text(16, 34), "check 16, the output is shorter than the packed sheet: bytes 34");
     }
 
     #[test]

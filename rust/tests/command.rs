@@ -133,7 +133,8 @@ fn lists_are_refused_with_status_1() {
 fn sheets_are_refused_with_status_2_by_every_command() {
     let empty = Scratch::with("empty", &[]);
     let message = "standard input: check 1, the sheet is shorter than its header of 6 bytes";
-    for arguments in [["search", "-"].as_slice(), &["decode"], &["check", "-", empty.path()], &["evaluate", "-", empty.path()]] {
+    for arguments in [["search", "-"].as_slice(), &["decode"], &["repack"], &["check", "-", empty.path()], &["evaluate", "-", empty.path()]]
+    {
         assert_complained(&run(arguments, &[1, 2, 3]), 2, message);
     }
     let mut head_too_high = C.to_vec();
@@ -146,9 +147,11 @@ fn sheets_are_refused_with_status_2_by_every_command() {
 
 #[test]
 fn text_and_sheets_are_told_apart() {
-    let text = run(&["search"], A.as_bytes());
-    assert_eq!((text.status, text.text()), (2, ""));
-    assert!(text.errors.ends_with("; this looks like text: `lihumbay encode` makes a sheet of it\n"), "{}", text.errors);
+    for name in ["search", "repack"] {
+        let text = run(&[name], A.as_bytes());
+        assert_eq!((text.status, text.text()), (2, ""));
+        assert!(text.errors.ends_with("; this looks like text: `lihumbay encode` makes a sheet of it\n"), "{}", text.errors);
+    }
     let message = "standard input: this isn't text; if it is a sheet, `lihumbay decode` writes it as text";
     assert_complained(&run(&["encode"], C), 2, message);
 }
@@ -163,10 +166,22 @@ fn text_goes_to_bytes_and_back() {
     }
 }
 
+/// Sheet C with its records in another order.
+const SHUFFLED: &[u8] = include_bytes!("../../samples/c-in-another-order.sheet");
+
 #[test]
 fn decoding_and_encoding_puts_records_in_order() {
-    let shuffled = [3, 0, 2, 0, 3, 0, 3, 0, 2, 0, 1, 0, 1, 0, 3, 0, 0, 0, 2, 0, 1, 0, 2, 0, 0, 0, 1, 0, 1, 0, 2, 0, 1, 0];
-    assert_eq!(encoded(run(&["decode"], &shuffled).text()), C);
+    assert_eq!(encoded(run(&["decode"], SHUFFLED).text()), C);
+}
+
+#[test]
+fn repacking_puts_records_in_order() {
+    let file = Scratch::with("sheet", SHUFFLED);
+    for (arguments, input) in [(["repack", file.path()].as_slice(), [].as_slice()), (&["repack"], SHUFFLED), (&["repack", "-"], C)] {
+        let packed = run(arguments, input);
+        assert_eq!((packed.status, packed.out.as_slice(), packed.errors.as_str()), (0, C, ""), "{arguments:?}");
+    }
+    assert_eq!(run(&["repack"], &large()).out, large());
 }
 
 #[test]
@@ -191,6 +206,7 @@ fn wrong_arguments_are_refused() {
     wrong(&["search", "--records", "65536"], "`--records` is a number from 0 to 65535, not `65536`; see `lihumbay search --help`");
     wrong(&["search", "--grouping", "-"], "`--grouping` needs the name of a file; see `lihumbay search --help`");
     wrong(&["search", "a", "b"], "2 files are given, where the sheet should be; see `lihumbay search --help`");
+    wrong(&["repack", "a", "b"], "2 files are given, where the sheet should be; see `lihumbay repack --help`");
     wrong(&["check"], "0 files are given, where the sheet and the list should be; see `lihumbay check --help`");
     wrong(&["check", "-", "-"], "only one file can be standard input; see `lihumbay check --help`");
 }
@@ -214,7 +230,7 @@ fn help_is_there_for_the_whole_and_for_each_command() {
         assert_eq!((whole.status, whole.errors.as_str()), (0, ""));
         assert!(whole.text().contains("Exit status:"));
     }
-    for name in ["encode", "decode", "search", "check", "evaluate"] {
+    for name in ["encode", "decode", "repack", "search", "check", "evaluate"] {
         let help = run(&[name, "--help"], &[]);
         assert!(help.text().starts_with(&format!("Usage: lihumbay {name} ")), "{name}");
         assert_said(&run(&["help", name], &[]), 0, help.text());

@@ -35,7 +35,7 @@ impl Random {
 }
 
 /// The same sheet with its records at other places.
-fn repacked(bytes: &[u8], conditions: usize, random: &mut Random) -> Vec<u8> {
+fn reordered(bytes: &[u8], conditions: usize, random: &mut Random) -> Vec<u8> {
     let start = HEADER_LENGTH + HEAD_LENGTH * conditions;
     let order = random.shuffled((bytes.len() - start) / TERM_LENGTH);
     let moved = |number: [u8; 2]| match usize::from(u16::from_le_bytes(number)) {
@@ -60,10 +60,11 @@ fn sheets_go_to_bytes_and_text_and_back() {
     for _ in 0..2000 {
         let sheet = random.sheet();
         let bytes = sheet.to_bytes();
-        let other = repacked(&bytes, sheet.conditions().len(), &mut random);
+        let other = reordered(&bytes, sheet.conditions().len(), &mut random);
         assert_eq!(Sheet::from_bytes(&bytes).as_ref(), Ok(&sheet));
         assert_eq!(Sheet::from_bytes(&other).as_ref(), Ok(&sheet));
         assert_eq!(sheet.to_string().parse().as_ref(), Ok(&sheet));
+        assert_eq!(lihumbay::repack(&other), Ok(bytes));
     }
 }
 
@@ -96,8 +97,9 @@ fn damaged_bytes_are_refused_or_read() {
         let mut bytes = random.sheet().to_bytes();
         let at = random.below(bytes.len());
         bytes[at] = random.below(256) as u8;
-        if let Ok(sheet) = Sheet::from_bytes(&bytes) {
-            assert_eq!(sheet.to_bytes().len(), bytes.len());
+        match Sheet::from_bytes(&bytes) {
+            Ok(sheet) => assert_eq!(lihumbay::repack(&bytes), Ok(sheet.to_bytes())),
+            Err(refusal) => assert_eq!(lihumbay::repack(&bytes), Err(refusal)),
         }
         RecordList::from(bytes).walk().for_each(drop);
     }

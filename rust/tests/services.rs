@@ -1,5 +1,7 @@
 //! The services through the package's types, on the sheets of document 01.
-use lihumbay::{Evaluation, MOST_RECORDS, MOST_TERMS, RECORD_LENGTH, Record, RecordList, SEARCH_STACK, Sheet, SheetBuilder, Term, Verdict};
+use lihumbay::{
+    Evaluation, MOST_RECORDS, MOST_TERMS, RECORD_LENGTH, Record, RecordList, SEARCH_STACK, Sheet, SheetBuilder, Subject, Term, Verdict,
+};
 
 fn sheet(text: &str) -> Vec<u8> {
     text.parse::<Sheet>().expect("a test's sheet is well written").to_bytes()
@@ -140,6 +142,39 @@ fn the_evaluator_names_the_lowest_condition() {
     assert_eq!(lihumbay::evaluate(&sheet(C), &[1, 2, 3]), Ok(Evaluation::Unmet(1)));
     assert_eq!(lihumbay::evaluate(&sheet("never"), &[]), Ok(Evaluation::Unmet(1)));
     assert_eq!(lihumbay::evaluate(&sheet(C), &[1, 2]).unwrap_err().place, 3);
+}
+
+/// Sheet C with its records in another order.
+const C_IN_ANOTHER_ORDER: &[u8] = include_bytes!("../../samples/c-in-another-order.sheet");
+
+#[test]
+fn repacking_puts_the_records_in_order() {
+    assert_eq!(lihumbay::repack(C_IN_ANOTHER_ORDER), Ok(sheet(C)));
+    assert_eq!(lihumbay::repack(&sheet(C)), Ok(sheet(C)));
+    assert_eq!(lihumbay::repack(&sheet("")), Ok(vec![0; 6]));
+    assert_eq!(lihumbay::repack(&deepest()), Ok(deepest()));
+    assert_ne!(lihumbay::repack(&sheet("lots 4\nsame 1 2 | same 1 3\napart 1 2")), Ok(sheet(C)));
+}
+
+#[test]
+fn a_lent_output_is_written_only_as_far_as_the_packed_sheet_goes() {
+    let mut out = [9; 36];
+    assert_eq!(lihumbay::repack_into(C_IN_ANOTHER_ORDER, &mut out), Ok(34));
+    assert_eq!((&out[..34], &out[34..]), (sheet(C).as_slice(), [9; 2].as_slice()));
+    let mut short = [9; 33];
+    let refusal = lihumbay::repack_into(C_IN_ANOTHER_ORDER, &mut short).unwrap_err();
+    assert_eq!((refusal.check.number(), refusal.place, short), (16, 34, [9; 33]));
+    assert_eq!(refusal.check.subject(), Some(Subject::Output));
+}
+
+#[test]
+fn a_refused_sheet_is_not_repacked() {
+    let number = |sheet: &[u8]| lihumbay::repack(sheet).map_err(|refusal| refusal.check.number());
+    assert_eq!(number(&[]), Err(1));
+    assert_eq!(number(&C_IN_ANOTHER_ORDER[..33]), Err(3));
+    // Longer than any sheet: the output that is made for it is not.
+    assert_eq!(number(&[C_IN_ANOTHER_ORDER, &[0; 20_000]].concat()), Err(3));
+    assert_eq!(lihumbay::repack_into(&[], &mut []).unwrap_err().check.number(), 1);
 }
 
 #[test]

@@ -9,6 +9,7 @@ Usage: lihumbay COMMAND [OPTIONS] [FILES]
 Commands:
   encode    make a sheet of readable text
   decode    write a sheet as readable text
+  repack    put a sheet's records in order, so that equal sheets are equal files
   search    find a grouping that meets a sheet, or a refutation
   check     check a refutation from any hand
   evaluate  say whether a grouping meets a sheet
@@ -55,6 +56,17 @@ Usage: lihumbay decode [SHEET]
 
 Writes a sheet as the text that `lihumbay encode` reads. Encoded again, it is a
 sheet with the same lots and conditions, its records in order of condition.
+";
+
+const REPACK: &str = "\
+Usage: lihumbay repack [SHEET] > PACKED
+
+Writes the sheet's bytes to standard output with the records of condition 1
+first, in order, then those of condition 2, and so on. Two sheets with the same
+lots and the same conditions give the same bytes, two that differ never do, and
+a packed sheet stays as it is.
+
+Exit status: 0 written, 2 the sheet is refused.
 ";
 
 fn search() -> String {
@@ -106,6 +118,7 @@ pub fn of(command: &str) -> Option<String> {
     Some(match command {
         "encode" => encode(),
         "decode" => DECODE.into(),
+        "repack" => REPACK.into(),
         "search" => search(),
         "check" => CHECK.into(),
         "evaluate" => EVALUATE.into(),

@@ -32,6 +32,7 @@ fn answer(request: Request) -> Result<Status, Failure> {
         Request::Version => files::print(|out| writeln!(out, "lihumbay {}", env!("CARGO_PKG_VERSION"))),
         Request::Encode { text } => sheets::encode(&text),
         Request::Decode { sheet } => sheets::decode(&sheet),
+        Request::Repack { sheet } => sheets::repack(&sheet),
         Request::Search(search) => search::run(&search),
         Request::Check { sheet, list } => answers::check(&sheet, &list),
         Request::Evaluate { sheet, grouping } => answers::evaluate(&sheet, &grouping),

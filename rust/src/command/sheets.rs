@@ -1,4 +1,4 @@
-//! Sheets from files, and `encode` and `decode`.
+//! Sheets from files, and `encode`, `decode` and `repack`.
 use super::ending::{Failure, Status};
 use super::files::{self, Source};
 use lihumbay::{MOST_SHEET_LENGTH, Sheet};
@@ -34,6 +34,12 @@ pub fn encode(source: &Source) -> Result<Status, Failure> {
 pub fn decode(source: &Source) -> Result<Status, Failure> {
     let accepted = read(source)?;
     files::print(|out| write!(out, "{}", accepted.sheet))
+}
+
+pub fn repack(source: &Source) -> Result<Status, Failure> {
+    let accepted = read(source)?;
+    let canonical = lihumbay::repack(&accepted.bytes).map_err(|refusal| source.failure(refusal))?;
+    files::print(|out| out.write_all(&canonical))
 }
 
 /// Whether bytes have nothing but what text has. A byte sequence that the input's end cut in two is passed over.
