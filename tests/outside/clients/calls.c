@@ -117,6 +117,26 @@ static void checker(void) {
     changed("check, next of the second split", 14, 5, 13, 2);
 }
 
+/* Sheet C with its records in another order. */
+static const uint8_t reordered_c[] = {
+    3, 0, 2, 0, 3, 0,       3, 0, 2, 0,             1, 0, 1, 0, 3, 0, 0, 0,
+    2, 0, 1, 0, 2, 0, 0, 0, 1, 0, 1, 0, 2, 0, 1, 0,
+};
+
+static void repacker(void) {
+    uint8_t out[40];
+    memset(out, 170, sizeof out);
+    expect("repack, no room", is(lihumbay_repack(reordered_c, sizeof reordered_c, out, 0), 16, 34, 0, 0));
+    expect("repack, a byte too short", is(lihumbay_repack(reordered_c, sizeof reordered_c, out, 33), 16, 34, 0, 0));
+    expect("repack, a sheet refused", is(lihumbay_repack(reordered_c, 33, out, sizeof out), 3, 0, 0, 0));
+    expect("nothing written", all(out, 0, 40, 170));
+    expect("repack", is(lihumbay_repack(reordered_c, sizeof reordered_c, out, 34), 0, 34, 0, 0));
+    expect("its sheet", memcmp(out, sheet_c, sizeof sheet_c) == 0 && all(out, 34, 40, 170));
+    memset(out, 170, sizeof out);
+    expect("repack a packed sheet", is(lihumbay_repack(sheet_c, sizeof sheet_c, out, sizeof out), 0, 34, 0, 0));
+    expect("no byte changed", memcmp(out, sheet_c, sizeof sheet_c) == 0 && all(out, 34, 40, 170));
+}
+
 int main(void) {
     reader();
     search_met();
@@ -124,6 +144,7 @@ int main(void) {
     search_cannot();
     evaluator();
     checker();
+    repacker();
     puts(failed ? "calls from C: FAILED" : "calls from C: ok");
     return failed;
 }

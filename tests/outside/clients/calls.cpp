@@ -1,4 +1,4 @@
-// The header from C++: its functions have C linkage, and a search of document 01's sheet C answers as the paper says.
+// The header from C++: its functions have C linkage, and document 01's sheet C is answered as the papers say.
 #include <algorithm>
 #include <array>
 #include <iostream>
@@ -8,16 +8,18 @@
 
 int main() {
     const std::array<std::uint8_t, 34> sheet = {3, 0, 2, 0, 3, 0, 1, 0, 3, 0, 1, 0, 1, 0, 2, 0, 2, 0, 1, 0, 1, 0, 3, 0, 0, 0, 2, 0, 1, 0, 2, 0, 0, 0};
-    std::vector<std::uint8_t> grouping(4, 170), store(40, 170);
+    std::vector<std::uint8_t> grouping(4, 170), store(40, 170), out(35, 170);
     const lihumbay_numbers read = lihumbay_read(sheet.data(), sheet.size());
     const lihumbay_numbers found = lihumbay_search(sheet.data(), sheet.size(), grouping.data(), grouping.size(), store.data(), store.size());
     const lihumbay_numbers evaluated = lihumbay_evaluate(sheet.data(), sheet.size(), grouping.data(), grouping.size());
     const lihumbay_numbers checked = lihumbay_check(sheet.data(), sheet.size(), store.data(), 32);
+    const lihumbay_numbers repacked = lihumbay_repack(sheet.data(), sheet.size(), out.data(), out.size());
     const bool accepted = read.check == 0 && read.first == 3 && read.second == 2 && read.third == 3;
     const bool met = found.check == 0 && found.first == 1 && found.second == 4 && found.third == 0;
     const bool written = grouping == std::vector<std::uint8_t>{1, 2, 1, 170} && std::count(store.begin() + 32, store.end(), 170) == 8;
     const bool no_refutation = checked.check == 11 && checked.first == 4;
-    const bool ok = accepted && met && written && no_refutation && evaluated.check == 0 && evaluated.first == 0;
+    const bool canonical = repacked.check == 0 && repacked.first == 34 && std::equal(sheet.begin(), sheet.end(), out.begin()) && out.back() == 170;
+    const bool ok = accepted && met && written && no_refutation && canonical && evaluated.check == 0 && evaluated.first == 0;
     std::cout << (ok ? "calls from C++: ok\n" : "calls from C++: FAILED\n");
     return ok ? 0 : 1;
 }

@@ -1,4 +1,4 @@
-"""Calls the four services from Python, on document 01's sheets A and C. Its argument is a shared library made from the archive."""
+"""Calls the services from Python, on document 01's sheets A and C. Its argument is a shared library made from the archive."""
 import ctypes
 import sys
 
@@ -24,22 +24,24 @@ def service(library, name, buffers):
     return call
 
 
+C = bytes.fromhex("030002000300 01000300 0100010002000200 0100010003000000 0200010002000000")
+C_IN_ANOTHER_ORDER = bytes.fromhex("030002000300 03000200 0100010003000000 0200010002000000 0100010002000100")
+
+
 def sheet_c(read, search, evaluate):
-    sheet = bytes.fromhex("030002000300 01000300 0100010002000200 0100010003000000 0200010002000000")
     grouping, store = bytearray(b"\xaa" * 5), bytearray(b"\xaa" * 41)
-    assert read(sheet) == (0, 3, 2, 3)
-    assert search(sheet, grouping, store) == (0, 1, 4, 0)
+    assert read(C) == (0, 3, 2, 3)
+    assert search(C, grouping, store) == (0, 1, 4, 0)
     assert grouping == bytes([1, 2, 1, 0xAA, 0xAA])
     assert store == bytes.fromhex("0100010002000300 0200020000000000 0100010003000000 0300000000000000") + b"\xaa" * 9
-    assert evaluate(sheet, bytes(grouping)) == (0, 0, 0, 0)
-    assert evaluate(sheet, bytes([7, 8, 9])) == (0, 1, 0, 0)
-    assert evaluate(sheet, bytes([7, 7])) == (8, 3, 0, 0)
+    assert evaluate(C, bytes(grouping)) == (0, 0, 0, 0)
+    assert evaluate(C, bytes([7, 8, 9])) == (0, 1, 0, 0)
+    assert evaluate(C, bytes([7, 7])) == (8, 3, 0, 0)
 
 
 def store_full(search):
-    sheet = bytes.fromhex("030002000300 01000300 0100010002000200 0100010003000000 0200010002000000")
     grouping, store = bytearray(b"\xaa" * 3), bytearray(b"\xaa" * 31)
-    assert search(sheet, grouping, store) == (9, 3, 0, 0)
+    assert search(C, grouping, store) == (9, 3, 0, 0)
     assert grouping == b"\xaa" * 3 and store == bytes(24) + b"\xaa" * 7
 
 
@@ -54,6 +56,16 @@ def sheet_a(search, check):
     assert check(sheet, bytes(store)) == (13, 1, 0, 0)
 
 
+def reordered(repack):
+    out = bytearray(b"\xaa" * 36)
+    assert repack(C_IN_ANOTHER_ORDER, out) == (0, 34, 0, 0)
+    assert out == C + b"\xaa" * 2
+    short = bytearray(b"\xaa" * 33)
+    assert repack(C, short) == (16, 34, 0, 0)
+    assert repack(C[:33], short) == (3, 0, 0, 0)
+    assert short == b"\xaa" * 33
+
+
 def main():
     library = ctypes.CDLL(sys.argv[1])
     read, evaluate = service(library, "lihumbay_read", 1), service(library, "lihumbay_evaluate", 2)
@@ -61,6 +73,7 @@ def main():
     sheet_c(read, search, evaluate)
     store_full(search)
     sheet_a(search, check)
+    reordered(service(library, "lihumbay_repack", 2))
     print("calls from Python: ok")
 
 
