@@ -1,6 +1,6 @@
-//! One input of all four services.
+//! One input of all services.
 use crate::random::Random;
-use second::answer::Answer;
+use second::answer::{Answer, Refusal};
 use second::limits::NODE_LENGTH;
 use std::fmt;
 
@@ -11,12 +11,15 @@ pub struct Case {
     pub store_length: usize,
     /// What the checker is given.
     pub list: Vec<u8>,
-    /// Both buffers of the search are filled with this byte beforehand. It isn't 0, so that a zero which should not be written is seen.
+    /// The length of the repacker's output.
+    pub out_length: usize,
+    /// The buffers that are written are filled with this byte beforehand. It isn't 0, so that a zero which should not be written is seen.
     pub fill: u8,
 }
 
 impl Case {
-    /// A sheet with a random grouping of at least n bytes, mostly exactly n, a store around the count of nodes, and a list that is the search's own.
+    /// A sheet with a random grouping of at least n bytes, mostly exactly n, a store around the count of nodes, a list that is the search's own, and an output
+    /// around the canonical length.
     pub fn of(sheet: Vec<u8>, random: &mut Random) -> Case {
         Case::with_room(sheet, 300, random)
     }
@@ -27,7 +30,7 @@ impl Case {
         let lots = usize::from(*sheet.first().unwrap_or(&0));
         let grouping = grouping(lots, random);
         let store_length = store_length(found.count(), random);
-        Case { sheet, grouping, store_length, list: found.nodes, fill: random.byte() | 1 }
+        Case { grouping, store_length, list: found.nodes, fill: random.byte() | 1, out_length: out_length(&sheet, random), sheet }
     }
 }
 
@@ -54,6 +57,29 @@ pub fn store_length(count: usize, random: &mut Random) -> usize {
         _ => count + random.below(20),
     };
     NODE_LENGTH * records + if random.chance(50) { random.below(NODE_LENGTH) } else { 0 }
+}
+
+/// Around the canonical length, and 0. Now and then the low 16 bits alone would be too short.
+pub fn out_length(sheet: &[u8], random: &mut Random) -> usize {
+    let exact = canonical_length(sheet);
+    match random.below(10) {
+        0 => 0,
+        1 | 2 => exact.saturating_sub(1),
+        3 => exact.saturating_sub(random.range(2, 9)),
+        4 => random.below(exact + 1),
+        5 | 6 => exact,
+        7 => exact + 1,
+        8 if random.chance(2) => (1 << 16) + random.below(exact + 1),
+        _ => exact + random.below(40),
+    }
+}
+
+/// The length of the canonical bytes, or the sheet's own where it is refused.
+pub fn canonical_length(sheet: &[u8]) -> usize {
+    match second::repack(sheet, &mut []) {
+        Err(Refusal { check: 16, place }) => place,
+        _ => sheet.len(),
+    }
 }
 
 /// What the second implementation finds with room for `room` records.
@@ -96,7 +122,7 @@ impl fmt::Display for Case {
     fn fmt(&self, out: &mut fmt::Formatter) -> fmt::Result {
         writeln!(out, "sheet    {}", hex(&self.sheet))?;
         writeln!(out, "grouping {}", hex(&self.grouping))?;
-        writeln!(out, "store    {} bytes, buffers filled with {:02x}", self.store_length, self.fill)?;
+        writeln!(out, "store    {} bytes, output {} bytes, both filled with {:02x}", self.store_length, self.out_length, self.fill)?;
         writeln!(out, "list     {}", hex(&self.list))
     }
 }

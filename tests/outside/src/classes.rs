@@ -1,5 +1,5 @@
 //! The classes of input: valid and damaged sheets, groupings, stores, and refutations of every hand.
-use crate::case::{Case, grouping, probe, store_length};
+use crate::case::{Case, grouping, out_length, probe, store_length};
 use crate::damage::{Damaged, list_fault};
 use crate::families::{bytes, deep, joined, marked, wide, wide_and_met, wide_and_met_count, wide_count};
 use crate::lists;
@@ -79,7 +79,7 @@ fn deep_family(random: &mut Random, number: usize) -> Case {
     let sheet = sheets::write_in_some_order(lots, &conditions, random);
     let found = probe(&sheet, 3000);
     let store_length = NODE_LENGTH * random.pick(&[found.count(), found.count() - 1, found.count() + 1]);
-    Case { sheet, grouping: grouping(lots, random), store_length, list: found.nodes, fill: 0xFF }
+    Case { grouping: grouping(lots, random), store_length, list: found.nodes, fill: 0xFF, out_length: out_length(&sheet, random), sheet }
 }
 
 /// So many terms and pairs that some nodes and grounds walk over the pairs, some mark a table, and some do the one and then the other.
@@ -114,11 +114,12 @@ fn own_grouping(random: &mut Random, number: usize) -> Case {
         grouping[at] = random.byte() % 9;
     }
     Case {
-        sheet,
         grouping,
         store_length: store_length(found.nodes.len() / NODE_LENGTH, random),
         list: found.nodes,
         fill: random.byte() | 2,
+        out_length: out_length(&sheet, random),
+        sheet,
     }
 }
 
@@ -158,7 +159,14 @@ fn random_bytes(random: &mut Random, number: usize) -> Case {
 /// A case whose list is the point: the search's own buffers are of the right size.
 fn with_list(sheet: Vec<u8>, list: Vec<u8>, random: &mut Random) -> Case {
     let lots = usize::from(sheet[0]);
-    Case { sheet, grouping: random.bytes(lots), store_length: store_length(20, random), list, fill: random.byte() | 4 }
+    Case {
+        grouping: random.bytes(lots),
+        store_length: store_length(20, random),
+        list,
+        fill: random.byte() | 4,
+        out_length: out_length(&sheet, random),
+        sheet,
+    }
 }
 
 fn accepted(sheet: &[u8]) -> Sheet {

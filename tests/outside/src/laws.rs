@@ -1,6 +1,7 @@
 //! Laws of the archive that need no second implementation.
+use crate::canonical::canonical_laws;
 use crate::case::Case;
-use crate::compare::{Searched, plain, searched};
+use crate::compare::{Repacked, Searched, plain, repacked, repacked_on, searched};
 use lihumbay::raw;
 use second::limits::NODE_LENGTH;
 use std::hint::black_box;
@@ -13,12 +14,14 @@ const FEW_LOTS: usize = 5;
 pub fn laws(case: &Case) -> Result<(), String> {
     let sheet = case.sheet.clone();
     let list = case.list.clone();
-    let found = searched(case);
-    twice(case, &found)?;
-    surrounded(case)?;
+    let (found, repacked) = (searched(case), repacked(case));
+    twice(case, &found, &repacked)?;
+    surrounded(case, &repacked)?;
     verdict(case, &found)?;
     untouched(case, &found)?;
+    output_untouched(case, &repacked)?;
     brute_force(case, &found)?;
+    canonical_laws(case, &found, &repacked)?;
     // Without the black box the compiler may take it for granted that what is lent to be read stays.
     if sheet != *black_box(&case.sheet) || list != *black_box(&case.list) {
         return Err("an input that is only read was changed".into());
@@ -27,18 +30,21 @@ pub fn laws(case: &Case) -> Result<(), String> {
 }
 
 /// The same call gives the same.
-fn twice(case: &Case, found: &Searched) -> Result<(), String> {
+fn twice(case: &Case, found: &Searched, written: &Repacked) -> Result<(), String> {
     if searched(case) != *found {
         return Err("the same search gave two answers".into());
     }
     if raw::check(&case.sheet, &case.list) != raw::check(&case.sheet, &case.list) {
         return Err("the same check gave two answers".into());
     }
+    if repacked(case) != *written {
+        return Err("the same sheet was repacked in two ways".into());
+    }
     Ok(())
 }
 
 /// The same bytes at an odd address, among others that are not lent, give the same answers.
-fn surrounded(case: &Case) -> Result<(), String> {
+fn surrounded(case: &Case, written: &Repacked) -> Result<(), String> {
     for around in [0x00, 0xFF, 0x01] {
         let (sheet, list) = (among(&case.sheet, around), among(&case.list, around));
         let (sheet, list) = (&sheet[AROUND..AROUND + case.sheet.len()], &list[AROUND..AROUND + case.list.len()]);
@@ -46,6 +52,7 @@ fn surrounded(case: &Case) -> Result<(), String> {
         if raw::read(sheet) != raw::read(&case.sheet)
             || !evaluates_as_before
             || raw::check(sheet, list) != raw::check(&case.sheet, &case.list)
+            || repacked_on(sheet, case) != *written
         {
             return Err("an answer depends on bytes that were not lent".into());
         }
@@ -78,14 +85,26 @@ fn untouched(case: &Case, found: &Searched) -> Result<(), String> {
         [9, room, _, _] => (0, NODE_LENGTH * room as usize),
         _ => (0, 0),
     };
-    let is_filled = |bytes: &[u8]| bytes.iter().all(|&byte| byte == case.fill);
-    if !is_filled(&found.grouping[grouping_written..]) || !is_filled(&found.store[store_written..]) {
+    if !is_filled(&found.grouping[grouping_written..], case) || !is_filled(&found.store[store_written..], case) {
         return Err("a byte past the written part was changed".into());
     }
     if found.answer[0] == 9 && found.store[..store_written].iter().any(|&byte| byte != 0) {
         return Err("a full store's records are not all zero".into());
     }
     Ok(())
+}
+
+/// The output has what it had past what the answer says was written, and everywhere where a check refused.
+fn output_untouched(case: &Case, repacked: &Repacked) -> Result<(), String> {
+    let written = match repacked.answer {
+        [0, length, ..] => length as usize,
+        _ => 0,
+    };
+    if is_filled(&repacked.out[written..], case) { Ok(()) } else { Err("a byte of the output past the packed sheet was changed".into()) }
+}
+
+fn is_filled(bytes: &[u8], case: &Case) -> bool {
+    bytes.iter().all(|&byte| byte == case.fill)
 }
 
 /// With few lots: some grouping meets the sheet exactly where the search says so.

@@ -31,6 +31,7 @@ impl Tally {
         let evaluated = if answers.evaluate[1] == 0 { "all met" } else { "a condition not met" };
         self.answer("evaluator", &answers.evaluate, evaluated.into());
         self.answer("checker", &answers.check, "passes".into());
+        self.answer("repacker", &answers.repack, "written".into());
     }
 
     fn answer(&mut self, service: &'static str, numbers: &[u32; 4], accepted: String) {
@@ -49,7 +50,7 @@ impl Tally {
     }
 
     pub fn report(&self) -> String {
-        let mut text = format!("\n{} inputs, each through four services:\n", self.inputs());
+        let mut text = format!("\n{} inputs, each through all services:\n", self.inputs());
         for (name, count, [met, cannot, full]) in &self.classes {
             writeln!(text, "  {count:8} {name} (met {met}, cannot {cannot}, store full {full})").expect("a string takes all");
         }

@@ -10,11 +10,12 @@ const LEAST_INPUTS: usize = 100_000;
 const LEAST_SEEN: usize = 50;
 
 /// The checks that each service makes, and 0, no refusal: all are to be seen, so that the classes can't go stale.
-const CHECKS: [(&str, &[u32]); 4] = [
+const CHECKS: [(&str, &[u32]); 5] = [
     ("reader", &[0, 1, 2, 3, 4, 5, 6, 7]),
     ("search", &[0, 1, 2, 3, 4, 5, 6, 7, 8, 9]),
     ("evaluator", &[0, 1, 2, 3, 4, 5, 6, 7, 8]),
     ("checker", &[0, 1, 2, 3, 4, 5, 6, 7, 10, 11, 12, 13, 14, 15]),
+    ("repacker", &[0, 1, 2, 3, 4, 5, 6, 7, 16]),
 ];
 
 #[test]

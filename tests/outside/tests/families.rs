@@ -14,7 +14,7 @@ use second::writer::{apart, sheet_bytes};
 /// The search over the family answers these four numbers; both implementations agree on all bytes, and the laws stand.
 fn searches(conditions: &[Vec<Term>], store_length: usize, expected: [u32; 4]) {
     let sheet = bytes(conditions);
-    let case = Case { sheet, grouping: vec![7; lots(conditions) + 1], store_length, list: vec![], fill: 0xC3 };
+    let case = Case { out_length: sheet.len(), sheet, grouping: vec![7; lots(conditions) + 1], store_length, list: vec![], fill: 0xC3 };
     assert_eq!(searched(&case).answer, expected, "a store of {store_length} bytes");
     run_case(&case, &mut Tally::default());
 }
@@ -84,7 +84,8 @@ fn deepest_paths() {
             let sheet = sheet_bytes(lots, &conditions);
             let found = probe(&sheet, count);
             assert_eq!(found.nodes.len(), 8 * count);
-            let case = Case { sheet, grouping: vec![1; lots], store_length: 8 * count, list: found.nodes, fill: 0x3C };
+            let (out_length, store_length) = (sheet.len() + 1, 8 * count);
+            let case = Case { sheet, grouping: vec![1; lots], store_length, list: found.nodes, out_length, fill: 0x3C };
             assert_eq!(searched(&case).answer, [0, 2, count as u32, 0]);
             run_case(&case, &mut Tally::default());
         }
@@ -98,7 +99,7 @@ fn checks(list: Vec<u8>, expected: [u32; 4]) {
     let sheet = sheet_bytes(2, &[vec![apart(1, 1), apart(2, 2)]]);
     let answer = lihumbay::raw::check(&sheet, &list);
     assert_eq!([answer.check, answer.first, answer.second, answer.third], expected);
-    run_case(&Case { sheet, grouping: vec![1, 2], store_length: 16, list, fill: 0x81 }, &mut Tally::default());
+    run_case(&Case { out_length: sheet.len(), sheet, grouping: vec![1, 2], store_length: 16, list, fill: 0x81 }, &mut Tally::default());
 }
 
 #[test]

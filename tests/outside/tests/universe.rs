@@ -1,11 +1,14 @@
 //! Very small universes, whole: all sheets with few lots, conditions and records whose fields lie in a small range, and all short lists.
-use outside::case::{Case, probe};
+use outside::canonical::canonical;
+use outside::case::{Case, canonical_length, probe};
 use outside::run::{run_case, say, with_stack};
 use outside::tally::Tally;
 use outside::tree::{ground, split};
+use second::reader::accept;
 use second::sheet::Term;
 use second::store::{Record, list_bytes};
-use second::writer::{apart, same, sheet_bytes};
+use second::writer::{apart, same, sheet_bytes, sheet_bytes_in};
+use std::collections::HashMap;
 
 /// All lists of `length` values out of `values`.
 fn each<T: Clone>(values: &[T], length: usize, visit: &mut impl FnMut(&[T])) {
@@ -37,32 +40,44 @@ fn records(signs: (u8, u8), most_spare: u8, a: (u8, u8), b: (u8, u8), most_next:
     all
 }
 
-/// The search's own list and exactly its room; one byte of room less where the count is even, so that 9 is seen too.
+/// The search's own list, exactly its room and that of the canonical bytes. The store is a byte shorter where the count is even, so that 9 is seen too, and the
+/// output where the sheet's bytes have an odd sum, so that 16 is.
 fn case(sheet: Vec<u8>) -> Case {
     let found = probe(&sheet, 64);
     let short = usize::from(found.count().is_multiple_of(2));
+    let sum: usize = sheet.iter().map(|&byte| usize::from(byte)).sum();
     Case {
         grouping: found.grouping[..2.max(usize::from(sheet[0]))].to_vec(),
         store_length: 8 * found.count() - short,
         list: found.nodes,
+        out_length: canonical_length(&sheet) - sum % 2,
         fill: 0x55,
         sheet,
     }
 }
 
-fn all_sheets(lots: u8, conditions: u8, terms: usize, records: &[Vec<u8>], tally: &mut Tally) -> usize {
+/// All sheets with so many lots, conditions and records, heads up to one past the last record, and records out of these.
+fn all_sheets(lots: u8, conditions: u8, terms: usize, records: &[Vec<u8>], visit: &mut impl FnMut(Vec<u8>)) {
     let heads: Vec<u8> = (0..=terms as u8 + 1).collect();
-    let mut count = 0;
     each(&heads, usize::from(conditions), &mut |heads| {
         each(records, terms, &mut |records| {
             let mut sheet = vec![lots, 0, conditions, 0, terms as u8, 0];
             sheet.extend(heads.iter().flat_map(|&head| [head, 0]));
             sheet.extend(records.iter().flatten());
-            run_case(&case(sheet), tally);
-            count += 1;
+            visit(sheet);
         });
     });
-    count
+}
+
+/// All sheets of up to 2 lots, conditions and records, their fields in and around what is accepted.
+fn all_small_sheets(visit: &mut impl FnMut(Vec<u8>)) {
+    for lots in 0..=2 {
+        for conditions in 0..=2 {
+            all_sheets(lots, conditions, 0, &[], visit);
+            all_sheets(lots, conditions, 1, &records((0, 3), 1, (0, lots + 1), (0, lots + 1), 2), visit);
+            all_sheets(lots, conditions, 2, &records((1, 3), 0, (0, lots), (1, lots.max(1)), 3), visit);
+        }
+    }
 }
 
 #[test]
@@ -70,15 +85,13 @@ fn all_small_sheets_byte_by_byte() {
     with_stack(|| {
         let mut tally = Tally::default();
         let mut count = 0;
-        for lots in 0..=2 {
-            for conditions in 0..=2 {
-                count += all_sheets(lots, conditions, 0, &[], &mut tally);
-                count += all_sheets(lots, conditions, 1, &records((0, 3), 1, (0, lots + 1), (0, lots + 1), 2), &mut tally);
-                count += all_sheets(lots, conditions, 2, &records((1, 3), 0, (0, lots), (1, lots.max(1)), 3), &mut tally);
-            }
-        }
+        all_small_sheets(&mut |sheet| {
+            run_case(&case(sheet), &mut tally);
+            count += 1;
+        });
         say(&format!("{count} sheets of up to 2 lots, conditions and records, byte by byte"));
         (4..=7).for_each(|check| assert!(tally.seen("reader", check) > 100, "check {check}"));
+        [0, 16].iter().for_each(|&check| assert!(tally.seen("repacker", check) > 100, "check {check}"));
     });
 }
 
@@ -117,7 +130,8 @@ fn all_short_lists() {
         let sheet = sheet_bytes(2, &[vec![same(1, 2)], vec![apart(1, 2)]]);
         let mut run = |records: &[Record]| {
             let list = list_bytes(records);
-            run_case(&Case { sheet: sheet.clone(), grouping: vec![1, 1], store_length: 24, list, fill: 1 }, &mut tally);
+            let case = Case { sheet: sheet.clone(), grouping: vec![1, 1], store_length: 24, list, out_length: sheet.len(), fill: 1 };
+            run_case(&case, &mut tally);
             count += 1;
         };
         let odd = [Record { kind: 3, ..ground(0) }, Record { spare: 1, ..ground(1) }, ground(3), split(1, 3, 3)];
@@ -134,4 +148,61 @@ fn all_short_lists() {
         say(&format!("{count} lists of up to 5 records"));
         [0, 10, 11, 12, 13, 14].iter().for_each(|&check| assert!(tally.seen("checker", check) > 0, "check {check}"));
     });
+}
+
+type LotsAndConditions = (usize, Vec<Vec<Term>>);
+
+/// Canonical bytes beside the lots and conditions that they came from, over sheets of any kind.
+#[derive(Default)]
+struct Forms {
+    /// By the canonical bytes: lots and conditions, and how many sheets had them.
+    seen: HashMap<Vec<u8>, (LotsAndConditions, usize)>,
+}
+
+impl Forms {
+    /// Two sheets with equal lots and conditions give equal bytes, two that differ never do. Of a sheet that is refused nothing is kept.
+    fn add(&mut self, bytes: &[u8]) {
+        let Some(canonical) = canonical(bytes).expect("a repacker that keeps to its output") else { return };
+        let sheet = accept(bytes).expect("a sheet that the archive accepts");
+        assert_eq!(canonical, sheet_bytes(sheet.lots, &sheet.conditions), "the canonical bytes of {bytes:02x?}");
+        let own = (sheet.lots, sheet.conditions);
+        let (first, count) = self.seen.entry(canonical).or_insert_with(|| (own.clone(), 0));
+        assert_eq!(*first, own, "two sheets with the same canonical bytes");
+        *count += 1;
+    }
+
+    fn sheets(&self) -> usize {
+        self.seen.values().map(|(_, count)| count).sum()
+    }
+}
+
+#[test]
+fn canonical_bytes_of_all_small_sheets() {
+    let mut forms = Forms::default();
+    all_small_sheets(&mut |sheet| forms.add(&sheet));
+    say(&format!("{} accepted sheets byte by byte have {} canonical forms", forms.sheets(), forms.seen.len()));
+    assert!(forms.seen.values().any(|(_, count)| *count > 1));
+}
+
+/// All orders of the numbers 1 to `count`.
+fn orders(count: usize) -> Vec<Vec<usize>> {
+    let Some(before) = count.checked_sub(1).map(orders) else { return vec![vec![]] };
+    let put_in = |order: &Vec<usize>, at: usize| [&order[..at], &[count], &order[at..]].concat();
+    before.iter().flat_map(|order| (0..count).map(move |at| put_in(order, at))).collect()
+}
+
+#[test]
+fn canonical_bytes_in_all_orders_of_the_records() {
+    let mut forms = Forms::default();
+    let orders: Vec<Vec<Vec<usize>>> = (0..=6).map(orders).collect();
+    let conditions = conditions_of(&[same(1, 2), apart(1, 2)]);
+    for length in 0..=3 {
+        each(&conditions, length, &mut |conditions| {
+            let terms = conditions.iter().map(Vec::len).sum::<usize>();
+            let in_order = |order: &Vec<usize>| sheet_bytes_in(2, conditions, order);
+            orders[terms].iter().for_each(|order| forms.add(&in_order(order)));
+        });
+    }
+    say(&format!("{} sheets in all orders of their records have {} canonical forms", forms.sheets(), forms.seen.len()));
+    assert_eq!(forms.seen.len(), 1 + 7 + 49 + 343, "one for each list of conditions");
 }
