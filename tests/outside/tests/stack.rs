@@ -1,30 +1,53 @@
-//! The deepest search on a small stack: the product says that it needs up to 0.9 MB. A search that needs more ends this program, and so the test.
+//! The services on small stacks: the header says that a search needs up to 0.9 MB, and each of the others less than 48 KB. A call that needs more ends this
+//! program, and so the test.
 use lihumbay::raw;
 use outside::compare::plain;
 use outside::families::{deep, joined};
 use outside::random::Random;
 use second::limits::{MOST_NODES, NODE_LENGTH};
-use second::writer::sheet_bytes;
+use second::writer::{sheet_bytes, sheet_bytes_in};
 use std::thread;
 
-/// 0.9 MB, and a little for the thread itself.
-const STACK: usize = 900_000 + 32_768;
+const SEARCH: usize = 900_000;
+const OTHERS: usize = 48_000;
 
-fn verdict_on_small_stack(sheet: Vec<u8>) -> u32 {
-    let search = move || {
+/// Does the work on so much stack, and a little for the thread itself.
+fn on_stack<T: Send + 'static>(bytes: usize, work: impl FnOnce() -> T + Send + 'static) -> T {
+    thread::Builder::new().stack_size(bytes + 32_768).spawn(work).expect("a thread can be started").join().expect("work that ends")
+}
+
+/// The search's four numbers, and the records that it wrote.
+fn searched(sheet: Vec<u8>) -> ([u32; 4], Vec<u8>) {
+    on_stack(SEARCH, move || {
         let (mut grouping, mut store) = (vec![0; 128], vec![0; NODE_LENGTH * MOST_NODES]);
         let answer = plain(raw::search(&sheet, &mut grouping, &mut store));
-        assert_eq!(plain(raw::check(&sheet, &store[..NODE_LENGTH * answer[2] as usize])), [0; 4]);
-        answer[1]
-    };
-    thread::Builder::new().stack_size(STACK).spawn(search).expect("a thread can be started").join().expect("a search that ends")
+        store.truncate(NODE_LENGTH * answer[2] as usize);
+        (answer, store)
+    })
+}
+
+/// The services that don't search: the checker on the list that the search wrote, the others on its sheet.
+fn others(sheet: Vec<u8>, list: Vec<u8>) {
+    on_stack(OTHERS, move || {
+        assert_eq!(plain(raw::read(&sheet))[0], 0);
+        assert_eq!(plain(raw::check(&sheet, &list)), [0; 4]);
+        assert_eq!(plain(raw::evaluate(&sheet, &[1; 128]))[0], 0);
+        let mut out = vec![0; sheet.len()];
+        assert_eq!(plain(raw::repack(&sheet, &mut out)), [0, sheet.len() as u32, 0, 0]);
+    });
 }
 
 #[test]
-fn deepest_searches_fit() {
+fn deepest_searches_fit_and_so_do_the_others_on_them() {
     let mut random = Random::new(41);
-    for lots in [46, 128] {
-        assert_eq!(verdict_on_small_stack(sheet_bytes(lots, &deep(lots, 1024, &mut random))), 2);
+    let backwards: Vec<usize> = (1..=1024).rev().collect();
+    for sheet in [
+        sheet_bytes(46, &deep(46, 1024, &mut random)),
+        sheet_bytes_in(128, &deep(128, 1024, &mut random), &backwards),
+        sheet_bytes(128, &joined(128)),
+    ] {
+        let (answer, list) = searched(sheet.clone());
+        assert_eq!(answer[..2], [0, 2]);
+        others(sheet, list);
     }
-    assert_eq!(verdict_on_small_stack(sheet_bytes(128, &joined(128))), 2);
 }

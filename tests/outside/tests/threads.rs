@@ -1,6 +1,6 @@
 //! Two threads in the services at once: a call touches only what it is lent.
 use outside::case::Case;
-use outside::compare::{Searched, plain, searched};
+use outside::compare::{Repacked, Searched, plain, repacked, searched};
 use outside::random::Random;
 use outside::sheets;
 use std::sync::Barrier;
@@ -9,8 +9,8 @@ use std::thread;
 const CASES: usize = 400;
 const ROUNDS: usize = 5;
 
-fn all(cases: &[Case]) -> Vec<(Searched, [u32; 4])> {
-    cases.iter().map(|case| (searched(case), plain(lihumbay::raw::check(&case.sheet, &case.list)))).collect()
+fn all(cases: &[Case]) -> Vec<(Searched, [u32; 4], Repacked)> {
+    cases.iter().map(|case| (searched(case), plain(lihumbay::raw::check(&case.sheet, &case.list)), repacked(case))).collect()
 }
 
 #[test]
@@ -21,7 +21,7 @@ fn two_threads_at_once_answer_as_one() {
     let start = Barrier::new(2);
     let work = || {
         start.wait();
-        (0..ROUNDS).for_each(|_| assert!(all(&cases) == expected, "an answer changed while another thread was searching"));
+        (0..ROUNDS).for_each(|_| assert!(all(&cases) == expected, "an answer changed while another thread was in the services"));
     };
     thread::scope(|scope| {
         let worker = || thread::Builder::new().stack_size(16 << 20).spawn_scoped(scope, work).expect("a thread can be started");
