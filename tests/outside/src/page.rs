@@ -1,7 +1,7 @@
 //! The examples of docs/FORMAT.md: blocks of bytes and of text by their names, and calls over them. The page's last section says how they are written.
 use std::collections::HashMap;
 
-/// Both buffers of a search are filled with this byte beforehand.
+/// The buffers that a service writes are filled with this byte beforehand.
 pub const FILL: u8 = 0xAA;
 
 /// The examples of a page.
@@ -15,7 +15,7 @@ pub struct Page {
 pub struct Call {
     pub text: String,
     pub service: String,
-    /// What the service is given. Of a search: the sheet, and both buffers as they are afterwards.
+    /// What the service is given; a buffer that it writes, as it is afterwards.
     pub given: Vec<Vec<u8>>,
     pub answer: Answer,
 }

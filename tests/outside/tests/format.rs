@@ -31,12 +31,21 @@ fn searched(call: &Call, sheet: &[u8], grouping_after: &[u8], store_after: &[u8]
     Answer::Numbers(numbers)
 }
 
+/// The repacker's numbers, with the output as the page has it afterwards.
+fn repacked(call: &Call, sheet: &[u8], out_after: &[u8]) -> Answer {
+    let mut out = vec![FILL; out_after.len()];
+    let numbers = plain(raw::repack(sheet, &mut out));
+    assert_eq!(out, out_after, "the output after {}", call.text);
+    Answer::Numbers(numbers)
+}
+
 fn answered(call: &Call) -> Answer {
     match (call.service.as_str(), call.given.as_slice()) {
         ("read", [sheet]) => Answer::Numbers(plain(raw::read(sheet))),
         ("search", [sheet, grouping, store]) => searched(call, sheet, grouping, store),
         ("evaluate", [sheet, grouping]) => Answer::Numbers(plain(raw::evaluate(sheet, grouping))),
         ("check", [sheet, list]) => Answer::Numbers(plain(raw::check(sheet, list))),
+        ("repack", [sheet, out]) => repacked(call, sheet, out),
         ("print", [sheet]) => Answer::Printed(printed(sheet)),
         _ => panic!("there is no such call: {}", call.text),
     }
@@ -70,4 +79,5 @@ fn each_check_has_its_row_and_a_refusal() {
 #[test]
 fn sheet_c_is_the_sample() {
     assert_eq!(Page::of(TEXT).block("C"), include_bytes!("../../../samples/c.sheet"));
+    assert_eq!(Page::of(TEXT).block("C-in-another-order"), include_bytes!("../../../samples/c-in-another-order.sheet"));
 }
