@@ -10,7 +10,7 @@ const NOTHING: &str = "nothing";
 
 /// One call of one contender: what is counted.
 pub fn once(service: &str, key: &str, contender: &str) {
-    let service = Service::ALL.into_iter().find(|known| known.word() == service).expect("a service: search, check or read");
+    let service = Service::ALL.into_iter().find(|known| known.word() == service).expect("a service: search, check, read or repack");
     let job = jobs::one(service, key).expect("the key of a job");
     let mut buffers = Buffers::new();
     if let Some(contender) = service.contenders().iter().position(|name| *name == contender) {

@@ -3,8 +3,8 @@ use crate::cases::{self, Answer, Case};
 use crate::families;
 use crate::lists::Joins;
 use crate::records::{MOST, answered, refused};
-use crate::sheets::Sheet;
-use crate::{check, lists, read, search, slow};
+use crate::sheets::{MOST_BYTES, Sheet};
+use crate::{check, lists, read, repack, search, slow};
 use lihumbay::raw::Numbers;
 
 #[derive(Clone, Copy, PartialEq, Eq)]
@@ -12,16 +12,18 @@ pub enum Service {
     Search,
     Check,
     Read,
+    Repack,
 }
 
 impl Service {
-    pub const ALL: [Service; 3] = [Service::Search, Service::Check, Service::Read];
+    pub const ALL: [Service; 4] = [Service::Search, Service::Check, Service::Read, Service::Repack];
 
     pub fn word(self) -> &'static str {
         match self {
             Service::Search => "search",
             Service::Check => "check",
             Service::Read => "read",
+            Service::Repack => "repack",
         }
     }
 
@@ -30,7 +32,7 @@ impl Service {
         match self {
             Service::Search => "node",
             Service::Check => "record",
-            Service::Read => "term",
+            Service::Read | Service::Repack => "term",
         }
     }
 
@@ -39,6 +41,7 @@ impl Service {
             Service::Search => search::ALL.map(|(name, _)| name).into(),
             Service::Check => check::ALL.map(|(name, _)| name).into(),
             Service::Read => read::ALL.map(|(name, _)| name).into(),
+            Service::Repack => repack::ALL.map(|(name, _)| name).into(),
         }
     }
 }
@@ -57,17 +60,21 @@ pub struct Job {
     pub known: Numbers,
 }
 
-/// The buffers that a search writes.
+/// The buffers that a search writes, and the one that a repacker writes.
 #[derive(Clone, PartialEq, Eq)]
 pub struct Buffers {
     pub grouping: Vec<u8>,
     pub store: Vec<u8>,
+    pub out: Vec<u8>,
 }
 
+/// What the buffers are painted with, so that a byte which must stay as it is shows where it doesn't.
+pub const PAINT: u8 = 170;
+
 impl Buffers {
-    /// Painted, so that a byte which must stay as it is shows where it doesn't.
+    /// The output is longer than the longest sheet.
     pub fn new() -> Buffers {
-        Buffers { grouping: vec![170; 128], store: vec![170; 8 * MOST] }
+        Buffers { grouping: vec![PAINT; 128], store: vec![PAINT; 8 * MOST], out: vec![PAINT; MOST_BYTES + 64] }
     }
 }
 
@@ -77,6 +84,7 @@ impl Job {
             Service::Search => search::ALL[contender].1(&self.bytes, &mut buffers.grouping, &mut buffers.store),
             Service::Check => check::ALL[contender].1(&self.bytes, &self.list),
             Service::Read => read::ALL[contender].1(&self.bytes),
+            Service::Repack => repack::ALL[contender].1(&self.bytes, &mut buffers.out),
         }
     }
 
@@ -87,6 +95,7 @@ impl Job {
             (Service::Search, _, _) => "full",
             (Service::Check, _, _) => "passes",
             (Service::Read, _, _) => "accepted",
+            (Service::Repack, _, _) => "packed",
         }
     }
 }
@@ -160,22 +169,29 @@ fn check_jobs(wanted: &dyn Fn(&str) -> bool) -> Vec<Job> {
     jobs
 }
 
-fn read_job(key: &str, name: &str, sheet: Sheet, bytes: Vec<u8>) -> Job {
-    let (n, m, k) = (sheet.lots, sheet.conditions.len(), sheet.terms());
-    let known = answered(n as u32, m as u32, k as u32);
-    Job { service: Service::Read, key: key.into(), name: name.into(), family: "sheet", sheet, bytes, list: Vec::new(), units: k, known }
+/// What a reader answers to a sheet.
+fn counts(sheet: &Sheet) -> Numbers {
+    answered(sheet.lots as u32, sheet.conditions.len() as u32, sheet.terms() as u32)
 }
 
-fn read_jobs() -> Vec<Job> {
+/// What a repacker answers to a sheet, in whatever order its records stand.
+pub fn packed_length(sheet: &Sheet) -> Numbers {
+    answered(sheet.bytes().len() as u32, 0, 0)
+}
+
+/// The reader and the repacker have the same inputs.
+fn sheet_jobs(service: Service, known: fn(&Sheet) -> Numbers) -> Vec<Job> {
     let (largest, one_chain, small) = (families::random(1, 256, 4), families::deep(1024), families::chain(4));
-    let orders = [largest.bytes(), largest.bytes_shuffled(1), one_chain.bytes(), one_chain.bytes_shuffled(1), small.bytes()];
-    let [rising, mixed, chain, chain_mixed, four] = orders;
+    let job = |key: &str, name: &str, sheet: &Sheet, bytes: Vec<u8>| {
+        let (known, units) = (known(sheet), sheet.terms());
+        Job { service, key: key.into(), name: name.into(), family: "sheet", sheet: sheet.clone(), bytes, list: Vec::new(), units, known }
+    };
     vec![
-        read_job("largest", "256 conditions of 4 terms, records in order", largest.clone(), rising),
-        read_job("largest-mixed", "the same, records in random order", largest, mixed),
-        read_job("one-chain", "one condition of 1,024 terms, in order", one_chain.clone(), chain),
-        read_job("one-chain-mixed", "the same, in random order", one_chain, chain_mixed),
-        read_job("small", "4 conditions of 1 term", small, four),
+        job("largest", "256 conditions of 4 terms, records in order", &largest, largest.bytes()),
+        job("largest-mixed", "the same, records in random order", &largest, largest.bytes_shuffled(1)),
+        job("one-chain", "one condition of 1,024 terms, in order", &one_chain, one_chain.bytes()),
+        job("one-chain-mixed", "the same, in random order", &one_chain, one_chain.bytes_shuffled(1)),
+        job("small", "4 conditions of 1 term", &small, small.bytes()),
     ]
 }
 
@@ -184,7 +200,8 @@ pub fn of(service: Service, wanted: &dyn Fn(&str) -> bool) -> Vec<Job> {
     let jobs = match service {
         Service::Search => cases::all().into_iter().filter(|case| wanted(&case.key)).map(search_job).collect(),
         Service::Check => check_jobs(wanted),
-        Service::Read => read_jobs(),
+        Service::Read => sheet_jobs(service, counts),
+        Service::Repack => sheet_jobs(service, packed_length),
     };
     jobs.into_iter().filter(|job| wanted(&job.key)).collect()
 }

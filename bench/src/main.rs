@@ -14,6 +14,7 @@ mod plots;
 mod random;
 mod read;
 mod records;
+mod repack;
 mod report;
 mod rounds;
 mod rows;

@@ -34,7 +34,7 @@ fn compared(service: Service) -> impl Iterator<Item = Job> {
 }
 
 pub fn compare_all() {
-    compare::random_searches();
+    compare::random_sheets();
     let count = Service::ALL.into_iter().flat_map(compared).count();
     println!("{count} inputs and 100 random sheets: all contenders agree");
 }
@@ -53,7 +53,7 @@ fn timed(plan: Plan, job: &Job) -> Vec<rounds::Taken> {
 
 /// Nanoseconds a unit of one input by each contender, and the product's time divided by the contender's.
 pub fn time_row(service: &str, key: &str) {
-    let service = Service::ALL.into_iter().find(|known| known.word() == service).expect("a service: search, check or read");
+    let service = Service::ALL.into_iter().find(|known| known.word() == service).expect("a service: search, check, read or repack");
     let job = jobs::one(service, key).expect("the key of a job");
     let taken = timed(Plan { rounds: 9, batch: 0.05 }, &job);
     for (name, taken) in service.contenders().into_iter().zip(taken) {
@@ -142,7 +142,7 @@ fn machine() -> String {
 
 pub fn measure(plan: Plan) {
     let machine = machine();
-    compare::random_searches();
+    compare::random_sheets();
     let rows: Vec<Row> = Service::ALL.into_iter().flat_map(|service| measure_service(plan, service)).collect();
     save("machine.txt", &format!("{} rounds of {} s; {machine}", plan.rounds, plan.batch));
     save("times.tsv", &rows::write(&rows));
@@ -175,6 +175,8 @@ pub fn write() {
         ("sizes", tables::plain(&load("sizes.tsv"))),
         ("read times", tables::times(&rows, "read", "Term")),
         ("read instructions", tables::instructions(&rows, "read")),
+        ("repack times", tables::times(&rows, "repack", "Term")),
+        ("repack instructions", tables::instructions(&rows, "repack")),
         ("z3", tables::plain(&load("z3.tsv"))),
         ("stack", tables::plain(&load("stack.tsv"))),
     ];

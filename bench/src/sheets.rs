@@ -1,6 +1,9 @@
 //! Sheets in the making, and their bytes.
 use crate::random::Random;
 
+/// The most bytes that a sheet has.
+pub const MOST_BYTES: usize = 6 + 2 * 256 + 8 * 1024;
+
 #[derive(Clone, Copy, Debug, PartialEq, Eq)]
 pub enum Sign {
     Same,
