@@ -1,7 +1,8 @@
-//! How much stack a call takes on the longest path that a sheet can have, 1,024 splits: it runs on a painted stack of 8 MB, and what was painted over is counted.
-use crate::jobs::Buffers;
+//! How much stack a search and a check take on the longest path that a sheet can have, 1,024 splits, and a repacking on the longest chain: the call runs on a
+//! painted stack of 8 MB, and what was painted over is counted.
+use crate::jobs::{Buffers, packed_length};
 use crate::records::answered;
-use crate::{check, families, lists, search};
+use crate::{check, families, lists, repack, search};
 use std::alloc::{Layout, alloc, dealloc};
 use std::ffi::c_void;
 use std::hint::black_box;
@@ -50,11 +51,12 @@ fn used(call: &mut dyn FnMut()) -> usize {
     }
 }
 
-/// The stack of each search and each checker, by name.
+/// The stack of each search, each checker and each repacker, by name.
 pub fn all() -> Vec<(String, usize)> {
     let thread = used(&mut || {});
-    let sheet = families::deep(1024).bytes();
-    let list = lists::deep(127);
+    let deep = families::deep(1024);
+    let (sheet, mixed, list) = (deep.bytes(), deep.bytes_shuffled(1), lists::deep(127));
+    let packed = packed_length(&deep);
     let mut rows = Vec::new();
     for (name, search) in search::ALL {
         let mut buffers = Buffers::new();
@@ -63,6 +65,11 @@ pub fn all() -> Vec<(String, usize)> {
     }
     for (name, check) in check::ALL {
         rows.push((format!("check, {name}"), used(&mut || assert!(check(&sheet, &list).check == 0)) - thread));
+    }
+    for (name, repack) in repack::ALL {
+        let mut out = Buffers::new().out;
+        let bytes = used(&mut || assert!(repack(&mixed, &mut out) == packed));
+        rows.push((format!("repack, {name}"), bytes - thread));
     }
     rows
 }
