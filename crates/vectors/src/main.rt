@@ -1,7 +1,8 @@
-// The outside vectors, run through the services: data/cases.bin has cases that an implementation of document 01 made which shares nothing with this
-// one, and the file stdout what it answered. A case is the service in one byte (0 read, 1 search, 2 check, 3 evaluate), then three buffers, each its
-// length in four bytes, low byte first, and its bytes: the sheet; the grouping or the list; the store. A line of output is the service, the answer as
-// four numbers, and a checksum of the second and of the third buffer after the call. The program compares nothing itself.
+// The outside vectors, run through four services: data/cases.bin has cases of implementations of documents 01 and 02 that share nothing with this one, those of
+// document 01 alone and then those of the newest request, and the file stdout what they answered. tests/outside runs that request's cases through every service.
+// A case is the service in one byte (0 read, 1 search, 2 check, 3 evaluate), then three buffers, each its length in four bytes, low byte first, and its bytes:
+// the sheet; the grouping or the list; the store. A line of output is the service, the answer as four numbers, and a checksum of the second and of the third
+// buffer after the call. The program compares nothing itself.
 ghost use Prim.Native.Nat.{_≤_};
 ghost use lib.ListN.{length};
 use libc::STDOUT_FILENO;
