@@ -7,11 +7,10 @@ use borrow.Author.Tests.{lt-ltb, le-ltb}
 use lib.Dec.{ltb}
 use lib.ListN.{length, take, drop}
 use lib.Seq.{take-append-seam}
-use Rattle.buffers.specs.Written.{written}
 use Rattle.sheet.specs.declared.Verdict.{Verdict}
 use Rattle.sheet.specs.declared.Verdict.the-variants.{Passes, Refuses}
 use Rattle.sheet.specs.Checks.{Accepted, orElse, firstRefusal, refusesIf, sheetVerdict}
-use Rattle.sheet.specs.Answers.{Answer, refused, answered, answerOf}
+use Rattle.sheet.specs.Answers.{Answer, answered, answerOf}
 use Rattle.sheet.proofs.Further.{further, further-passes}
 use Rattle.sheet.proofs.Numbered.{Numbered, either, test, sheet-numbered}
 use Rattle.writer.specs.Answers.{outputAfter}

@@ -1,12 +1,12 @@
 -- A loop over a sheet's conditions that adds them: those that are left, added to what there is now, come to all of them added at the start.
 use Prim.Native.Nat.{ℕ, suc, _+_, _≤_, _<_}
-use mathlib.Core.List.{List, [], _∷_, _++_, flatten}
+use mathlib.Core.List.{List, _∷_, flatten}
 use mathlib.Core.Path.{_≡_, refl, sym, ap, _∙_}
 use native.Mathlib.Omega.{arith}
 use lib.ListN.{length, drop, length-append}
 use Rattle.sheet.specs.Format.{conditionCount}
 use Rattle.sheet.specs.Conditions.{Term, conditionAt, conditions}
-use Rattle.sheet.proofs.Conditions.{conditions-length, conditions-step, conditions-end}
+use Rattle.sheet.proofs.Conditions.{conditions-step, conditions-end}
 use Rattle.writer.specs.Drafts.{Draft, withCondition, withTerms, withConditions, RoomFor, RoomForAll}
 use Rattle.writer.proofs.Rooms.{length-condition, length-terms, room-less, room-condition, room-terms}
 

@@ -1,5 +1,5 @@
 -- Room for conditions and terms: each part takes its share, and no part changes the length of the bytes.
-use Prim.Native.Nat.{ℕ, suc, _+_, _*_, _≤_}
+use Prim.Native.Nat.{ℕ, suc, _+_, _≤_}
 use mathlib.Core.List.{List, [], _∷_, _++_}
 use mathlib.Core.Path.{_≡_, refl, _∙_}
 use native.Mathlib.Omega.{arith}
@@ -64,7 +64,8 @@ pub room-terms : (ts : List Term) (c k : ℕ) (d : Draft) → RoomFor c (length 
 unfolding withTerms
 room-terms [] c k d room = room-less c (0 + k) d c k (omega arith) (omega arith) room
 room-terms (t ∷ ts) c k d room =
-    room-terms ts c k (withTerm t d) (room-term c (length ts + k) d t (room-less c (suc (length ts) + k) d c (suc (length ts + k)) (omega arith) (omega arith) room))
+    let left = room-less c (suc (length ts) + k) d c (suc (length ts + k)) (omega arith) (omega arith) room in
+    room-terms ts c k (withTerm t d) (room-term c (length ts + k) d t left)
 
 -- At the start there is room for a sheet that is no longer than the output.
 pub room-begun : (n m k : ℕ) (out : List ℕ) → k ≤ mostRecords → sheetLength m k ≤ length out → RoomFor m k (begun n m k out)

@@ -1,5 +1,5 @@
 -- What the parts come to: the bytes of the canonical sheet, and behind them what was there.
-use Prim.Native.Nat.{ℕ, suc, _+_, _*_, _≤_}
+use Prim.Native.Nat.{ℕ, _+_, _*_, _≤_}
 use mathlib.Core.List.{List, [], _∷_, _++_, flatten, append-nil}
 use mathlib.Core.Path.{_≡_, refl, sym, ap, _∙_}
 use native.Mathlib.Nat.{zero-add}
@@ -68,7 +68,8 @@ condition-stored [] d heads = refl
 condition-stored (t ∷ ts) d heads =
     let number = d .writer .number .0 in
     terms-stored t ts (withCondition d) heads
-    ∙ ap (λ (l : List ℕ). sets l (d .writer .place) (chainRecords number (t ∷ ts))) (sets-again (twoBytes 0) (twoBytes number) (d .bytes) (d .writer .head) refl)
+    ∙ ap (λ (l : List ℕ). sets l (d .writer .place) (chainRecords number (t ∷ ts)))
+    (sets-again (twoBytes 0) (twoBytes number) (d .bytes) (d .writer .head) refl)
 
 -- ---- condition after condition
 
@@ -89,7 +90,8 @@ terms-number [] d = omega arith
 terms-number (t ∷ ts) d = omega (arith, terms-number ts (withTerm t d))
 
 -- Of a head, a chain, further heads and further records: the heads stand together, and the records behind them.
-in-place : (l first others chain rest : List ℕ) (head next place after : ℕ) → next ≡ head + length first → after ≡ place + length chain → next + length others ≤ place
+in-place : (l first others chain rest : List ℕ) (head next place after : ℕ)
+    → next ≡ head + length first → after ≡ place + length chain → next + length others ≤ place
     → sets (sets (sets (sets l head first) place chain) next others) after rest ≡ sets (sets l head (first ++ others)) place (chain ++ rest)
 in-place l first others chain rest head next place after e f h =
     ap (λ (b : List ℕ). sets b after rest) (sets-before others chain (sets l head first) next place h)

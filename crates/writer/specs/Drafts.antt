@@ -24,7 +24,8 @@ draft bytes writer = record { bytes = bytes; writer = writer }
 -- The header of n lots, m conditions and k terms: the heads come behind it, and the records behind the heads.
 abbrev pub begun : ℕ → ℕ → ℕ → List ℕ → Draft
 begun n m k out =
-    draft (sets out 0 (twoBytes n ++ twoBytes m ++ twoBytes k)) (record { head = headerLength; place = headerLength + 2 * m; number = record { 0 = 1 }; link = 0 })
+    draft (sets out 0 (twoBytes n ++ twoBytes m ++ twoBytes k))
+    (record { head = headerLength; place = headerLength + 2 * m; number = record { 0 = 1 }; link = 0 })
 
 -- One condition more, with no term yet: its head is zero.
 abbrev pub withCondition : Draft → Draft

@@ -3,7 +3,7 @@
 ghost use mathlib.Core.Path.{_≡_};
 ghost use Prim.Native.Nat.{_+_, _*_, _≤_};
 ghost use lib.ListN.{length};
-ghost use Rattle.sheet.specs.Format.{mostConditions, headerLength, recordCount, conditionCount, sheetLength};
+ghost use Rattle.sheet.specs.Format.{headerLength, recordCount, conditionCount, sheetLength};
 ghost use Rattle.sheet.specs.Conditions.{termOf, termsFrom, conditionAt};
 ghost use Rattle.sheet.specs.Inner.{HasConditions};
 ghost use Rattle.writer.specs.Drafts.{draft, begun, withCondition, withTerm, withTerms, KnownSign, RoomFor};
@@ -24,7 +24,7 @@ pub struct Writer {
     // Where the next record goes, and its number.
     pub place: usize,
     pub number: Record,
-    // Where the number of the next term's record goes: the latest condition's head, or the next of its last record.
+    // Where the number of the next term's record goes: the latest condition's head, or the next of its last record. Before the first condition, 0.
     pub link: usize,
 }
 
@@ -37,7 +37,7 @@ pub fn length_of(m: u16, k: u16) -> u32
 
 // Writes the header. Behind it come the heads of m conditions, and behind these the records.
 pub fn begin(out: &mut [u8], n: u16, m: u16, k: u16) -> Writer
-    requires { ⌜ (m ≤ mostConditions) × (headerLength + 2 * m ≤ length (now out)) ⌝ }
+    requires { ⌜ headerLength + 2 * m ≤ length (now out) ⌝ }
     ensures { λ w. ⌜ draft (now (out .exit)) w ≡ begun n m k (now (out .entry)) ⌝ }
 {
     buffers::put_number(out, 0, n);
@@ -86,7 +86,8 @@ pub fn add_term(out: &mut [u8], w: Writer, sign: u8, a: Lot, b: Lot) -> Writer
 
 // Adds the terms of a sheet's chain, from its head to the zero.
 pub fn add_chain(sheet: &[u8], m: u16, head: Record, out: &mut [u8], w: Writer) -> Writer
-    requires { ⌜ HasConditions (now sheet) m × (head .0 ≤ recordCount (now sheet)) × RoomFor 0 (length (termsFrom (now sheet) (head .0))) (draft (now out) w) ⌝ }
+    requires { ⌜ HasConditions (now sheet) m × (head .0 ≤ recordCount (now sheet))
+        × RoomFor 0 (length (termsFrom (now sheet) (head .0))) (draft (now out) w) ⌝ }
     ensures { λ r. ⌜ draft (now (out .exit)) r ≡ withTerms (termsFrom (now (sheet .entry)) (head .0)) (draft (now (out .entry)) w) ⌝ }
 {
     let mut at = head;
@@ -101,7 +102,8 @@ pub fn add_chain(sheet: &[u8], m: u16, head: Record, out: &mut [u8], w: Writer) 
 
 // Adds a condition of a sheet.
 pub fn add_condition(sheet: &[u8], m: u16, c: Condition, out: &mut [u8], w: Writer) -> Writer
-    requires { ⌜ HasConditions (now sheet) m × (1 ≤ c .0) × (c .0 ≤ conditionCount (now sheet)) × RoomFor 1 (length (conditionAt (now sheet) (c .0))) (draft (now out) w) ⌝ }
+    requires { ⌜ HasConditions (now sheet) m × (1 ≤ c .0) × (c .0 ≤ conditionCount (now sheet))
+        × RoomFor 1 (length (conditionAt (now sheet) (c .0))) (draft (now out) w) ⌝ }
     ensures { λ r. ⌜ draft (now (out .exit)) r ≡ withTerms (conditionAt (now (sheet .entry)) (c .0)) (withCondition (draft (now (out .entry)) w)) ⌝ }
 {
     let head = sheet::format::head_at(sheet, c);

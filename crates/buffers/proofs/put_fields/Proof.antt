@@ -1,7 +1,7 @@
 -- `buffers::put_fields` meets its contract: the six bytes, one after the other, are one run of stores.
 use Prim.Native.Nat.{ℕ, _+_}
 use mathlib.Core.List.{List}
-use mathlib.Core.Path.{_≡_, refl, ap, _∙_}
+use mathlib.Core.Path.{_≡_, ap, _∙_}
 use native.Mathlib.Omega.{arith}
 use native.Mathlib.Numerals.{add-one, add-two, add-four}
 use borrow.Author.Needs.{needs}

@@ -8,7 +8,6 @@ use lib.ListN.{length}
 use Rattle.sheet.specs.Format.{sheetLength}
 use Rattle.sheet.specs.Conditions.{conditions}
 use Rattle.sheet.specs.Answers.{refused, answered, readingAnswer}
-use Rattle.sheet.proofs.Accepted.{sound}
 use Rattle.sheet.proofs.Readings.{ReadAs, read-accepts, read-refuses}
 use Rattle.writer.specs.declared.WriteAnswer.the-variants.{Written, Refused}
 use Rattle.writer.specs.Drafts.{Draft, withConditions}
@@ -38,7 +37,8 @@ cast-if1 c = search needs
 abbrev begun : tie.After-reading2 → tie.Start
 begun c = c .before .before .before .before .before
 
-accepted : (c : tie.After-reading2) → ReadAs (begun c .args .sheet .now) (c .reading2 .given .0 .0) (c .reading2 .given .0 .1 .0) (c .reading2 .given .0 .1 .1 .0)
+accepted : (c : tie.After-reading2)
+    → ReadAs (begun c .args .sheet .now) (c .reading2 .given .0 .0) (c .reading2 .given .0 .1 .0) (c .reading2 .given .0 .1 .1 .0)
 accepted c = read-accepts _ _ _ _ (ap readingAnswer (sym (c .reading2 .given .1)) ∙ c .before .before .read .ensures)
 
 returns : tie.Need-returns
@@ -47,8 +47,9 @@ returns c =
     let a = accepted reading in
     let start = begun reading in
     let s = start .args .sheet .now in
+    let out = start .args .out .now in
     let length = c .before .length-of .ensures ∙ needed a in
-    ensured s (start .args .out .now) (Refuses 16 (repackedLength s)) (output-short s (start .args .out .now) (a .accepted) (omega (arith, length, c .if1 .taken)))
+    ensured s out (Refuses 16 (repackedLength s)) (output-short s out (a .accepted) (omega (arith, length, c .if1 .taken)))
     (Refused 16 (c .before .length-of .result)) _ (ap (refused 16) length) refl
 
 -- Past the test there is room.
@@ -59,10 +60,7 @@ fits : (c : tie.Else1) → sheetLength (past c .reading2 .given .0 .1 .0) (past 
 fits c = omega (arith, c .before .length-of .ensures, c .if1 .left)
 
 begin-requires : tie.Need-begin-requires
-begin-requires c κs =
-    let reading = past (c .before) in
-    let a = accepted reading in
-    omega (arith, fits (c .before), a .conditions, sound (begun reading .args .sheet .now) (a .accepted) .header .conditions)
+begin-requires c κs = omega (arith, fits (c .before))
 
 add-conditions-requires : tie.Need-add-conditions-requires
 add-conditions-requires c κs =

@@ -1,6 +1,6 @@
 -- `writer::add_condition`: a head, then the terms of the condition's chain.
 use Prim.Native.Nat.{ℕ}
-use mathlib.Core.Path.{_≡_, ap₂, _∙_}
+use mathlib.Core.Path.{ap₂, _∙_}
 use native.Mathlib.Omega.{arith}
 use borrow.Author.Needs.{needs}
 use lib.ListN.{length}
@@ -25,10 +25,11 @@ add-chain-requires c κs =
     let head = begun .before .before in
     let start = head .before .before .before in
     let s = start .args .sheet .now in
-    let number = start .args .c .0 in (
+    let number = start .args .c .0 in
+    let before = draft (start .args .out .now) (start .args .w) in (
       start .pre .0,
       rw (head .head-at .ensures) (sound s (start .pre .0 .accepted) .heads number (start .pre .1) (start .pre .2)),
-      rw (head .head-at .ensures, begun .begin-condition .ensures) (room-condition 0 (length (conditionAt s number)) (draft (start .args .out .now) (start .args .w)) (start .pre .3)),
+      rw (head .head-at .ensures, begun .begin-condition .ensures) (room-condition 0 (length (conditionAt s number)) before (start .pre .3)),
     )
 
 same-length : tie.Need-same-length

@@ -36,7 +36,8 @@ returns c =
     let a = first .before .before .before .args in
     ap (λ (b : List ℕ). draft b (begun (a .n) (a .m) (a .k) (a .out .now) .writer))
     (third .put-number3 .ensures
-    ∙ ap (λ (l : List ℕ). sets l 4 (twoBytes (a .k))) (second .put-number2 .ensures ∙ ap (λ (l : List ℕ). sets l 2 (twoBytes (a .m))) (first .put-number .ensures))
+    ∙ ap (λ (l : List ℕ). sets l 4 (twoBytes (a .k)))
+    (second .put-number2 .ensures ∙ ap (λ (l : List ℕ). sets l 2 (twoBytes (a .m))) (first .put-number .ensures))
     ∙ header-stored (a .out .now) (a .n) (a .m) (a .k))
 
 pub begin-spec : {M : Type 1} → statement M
