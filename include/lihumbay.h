@@ -67,8 +67,8 @@ lihumbay_numbers lihumbay_check(const uint8_t *sheet, size_t sheet_length, const
 
 /* The repacker: the bytes written, then 0, 0. Checks 1 to 7 and 16; an output of 8,710 bytes is never too short.
    The first `first` bytes of out are written: the sheet with the records of condition 1 first, in the order of its chain, then those of condition 2, and so on.
-   Sheets with equal lots and equal conditions give equal bytes, two that differ never do, and a packed sheet changes no byte. All services answer the packed
-   sheet as they answer the sheet.
+   Sheets with equal lots and equal conditions give equal bytes, two that differ never do, and a packed sheet changes no byte. Reader, search, evaluator and
+   checker answer the packed sheet as they answer the sheet.
    No other byte of out is written, and on a refusal none is. */
 lihumbay_numbers lihumbay_repack(const uint8_t *sheet, size_t sheet_length, uint8_t *out, size_t out_length);
 

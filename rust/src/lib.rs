@@ -2,7 +2,7 @@
 //!
 //! A *sheet* has lots 1 to n and conditions, each a choice of terms "lots a and b the same" or "lots a and b apart". Five services take its bytes:
 //! [`read`] accepts or refuses them, [`search`] finds a grouping that meets every condition or a refutation, [`check`] checks a refutation from any hand,
-//! [`evaluate`] says whether a grouping meets the sheet, and [`repack`] puts the records in order, so that equal conditions are equal bytes. What they answer
+//! [`evaluate`] says whether a grouping meets the sheet, and [`repack`] puts the records in order, so that equal lots and conditions are equal bytes. What they answer
 //! is proved; the types here only give the numbers and bytes their names.
 //!
 //! ```

@@ -1,4 +1,4 @@
--- Two-byte numbers (document 01, "The sheet", first sentence).
+-- Two-byte numbers (document 01, "The sheet", first sentence), and the bytes that records begin with.
 use Prim.Native.Nat.{ℕ, _+_, _*_, _/_, _%_, _<_}
 use mathlib.Core.List.{List, [], _∷_, _++_}
 use lib.ListN.{getD}
@@ -15,6 +15,7 @@ twoBytes x = x % 256 ∷ x / 256 % 256 ∷ []
 abbrev pub TwoBytes : ℕ → Type 0
 TwoBytes x = x < 65536
 
--- The first six bytes of a record, of a term or of a node: its sign or kind, a spare byte 0, and two numbers.
+-- The first six bytes of a record. Of a term: "sign (one byte, 1 "same", 2 "apart"), spare (one byte, 0), lot a, lot b"; of a node: "kind, spare 0 (one byte
+-- each), first, second".
 abbrev pub fieldBytes : ℕ → ℕ → ℕ → List ℕ
 fieldBytes x first second = x ∷ 0 ∷ twoBytes first ++ twoBytes second

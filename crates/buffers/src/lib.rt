@@ -1,4 +1,5 @@
-// Two-byte numbers in lent bytes, and the fields that records of terms and of nodes begin with. The definitions and laws beside them are for all who write bytes: these are written, the others are untouched.
+// Two-byte numbers in lent bytes, and the fields that records of terms and of nodes begin with. The definitions and laws beside them are for all who write
+// bytes: these are written, the others are untouched.
 ghost use mathlib.Core.Path.{_≡_};
 ghost use Prim.Native.Nat.{_+_, _≤_};
 ghost use lib.ListN.{length};

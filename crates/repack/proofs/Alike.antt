@@ -1,4 +1,4 @@
--- Sheets that say the same are answered alike by every service. Nothing here asks how the records stand, or what a condition with no term counts for.
+-- Sheets that say the same are answered alike. Nothing here asks how the records stand, or what a condition with no term counts for.
 use Prim.Native.Nat.{ℕ}
 use mathlib.Core.List.{List, [], _∷_, _++_}
 use mathlib.Core.Path.{_≡_, refl, sym, ap, fun-ext, _∙_}

@@ -11,8 +11,9 @@ use Rattle.sheet.specs.declared.Verdict.{Verdict}
 use Rattle.sheet.specs.declared.Verdict.the-variants.{Passes, Refuses}
 use Rattle.sheet.specs.Checks.{Accepted, orElse, firstRefusal, refusesIf, sheetVerdict}
 use Rattle.sheet.specs.Answers.{Answer, answered, answerOf}
-use Rattle.sheet.proofs.Further.{further, further-passes}
-use Rattle.sheet.proofs.Numbered.{Numbered, either, test, sheet-numbered}
+use Rattle.sheet.proofs.Further.{further-passes}
+use Rattle.sheet.proofs.Lengths.{sheet-first, too-short, long-enough, then-numbered}
+use Rattle.sheet.proofs.Numbered.{Numbered}
 use Rattle.writer.specs.Answers.{outputAfter}
 use Rattle.repack.specs.Repack.{repacked, repackedLength, check16, repackVerdict, repackAnswer, repackOut}
 use Rattle.repack.proofs.Repacked.{repacked-length}
@@ -24,37 +25,30 @@ answerBy s v = answerOf v (answered (repackedLength s) 0 0)
 module _ (s out : List ℕ) where
   -- ---- the verdict
 
-  by-sheet : (v : Verdict) → sheetVerdict s ≡ v → repackVerdict s out ≡ orElse v (firstRefusal (check16 s out ∷ []))
-  unfolding repackVerdict
-  by-sheet v e = further s (check16 s out ∷ []) ∙ ap (λ (w : Verdict). orElse w (firstRefusal (check16 s out ∷ []))) e
-
   -- A sheet that is refused,
   pub sheet-refused : (check place : ℕ) → sheetVerdict s ≡ Refuses check place → repackVerdict s out ≡ Refuses check place
-  sheet-refused check place e = by-sheet (Refuses check place) e
+  unfolding repackVerdict check16
+  sheet-refused = sheet-first s out 16 (repackedLength s)
 
   -- an output that is too short,
   pub output-short : Accepted s → length out < repackedLength s → repackVerdict s out ≡ Refuses 16 (repackedLength s)
-  unfolding firstRefusal check16
-  output-short ok h = by-sheet Passes ok ∙ rw (lt-ltb (length out) (repackedLength s) h)
+  unfolding repackVerdict check16
+  output-short = too-short s out 16 (repackedLength s)
 
   -- or none of the eight.
   pub all-pass : Accepted s → repackedLength s ≤ length out → repackVerdict s out ≡ Passes
-  unfolding firstRefusal check16
-  all-pass ok h = by-sheet Passes ok ∙ rw (le-ltb (length out) (repackedLength s) h)
+  unfolding repackVerdict check16
+  all-pass = long-enough s out 16 (repackedLength s)
 
   -- Where none refuses, the sheet is accepted.
   passes-accepted : repackVerdict s out ≡ Passes → Accepted s
   unfolding repackVerdict
   passes-accepted e = further-passes s (check16 s out ∷ []) e .0
 
-  -- A refusal's number is at least 1.
+  -- A refusal's number is at least 1 and not 9.
   pub repack-numbered : Numbered (repackVerdict s out)
-  unfolding firstRefusal check16
-  repack-numbered =
-      subst Numbered (sym (by-sheet (sheetVerdict s) refl))
-      (either (sheetVerdict s) _ (sheet-numbered s)
-      (either (refusesIf (ltb (length out) (repackedLength s)) 16 (repackedLength s)) Passes
-      (test (ltb (length out) (repackedLength s)) 16 (repackedLength s) (omega arith, λ e. omega arith)) tt))
+  unfolding repackVerdict check16
+  repack-numbered = then-numbered s out 16 (repackedLength s) (omega arith, λ e. omega arith)
 
   -- ---- the answer, and the output
 

@@ -44,9 +44,12 @@ zeroHeadsPacked =
     2 ∷ 0 ∷ 1 ∷ 0 ∷ 1 ∷ 0 ∷ 2 ∷ 0 ∷
     1 ∷ 0 ∷ 4 ∷ 0 ∷ 2 ∷ 0 ∷ 0 ∷ 0 ∷ []
 
--- No lots and no conditions. A sheet of three bytes. One whose only record is never reached.
+-- No lots and no conditions. No lots, and a condition with no term. A sheet of three bytes. One whose only record is never reached.
 abbrev pub empty : List ℕ
 empty = replicate 6 0
+
+abbrev pub oneHead : List ℕ
+oneHead = 0 ∷ 0 ∷ 1 ∷ 0 ∷ 0 ∷ 0 ∷ 0 ∷ 0 ∷ []
 
 abbrev pub short : List ℕ
 short = 1 ∷ 2 ∷ 3 ∷ []
@@ -67,8 +70,9 @@ abbrev pub repacking : List ℕ → ℕ → Repacking
 repacking s n = leaves (repackAnswer s (room n)) (repackOut s (room n))
 
 pub repackings :
-    -- one byte short; just enough; three bytes more, which stay
-    repacking shuffledC 33
+    -- no output; one byte short; just enough; three bytes more, which stay
+    repacking shuffledC 0
+    ∷ repacking shuffledC 33
     ∷ repacking shuffledC 34
     ∷ repacking shuffledC 37
     -- a packed sheet changes no byte
@@ -77,11 +81,13 @@ pub repackings :
     ∷ repacking zeroHeads 28
     ∷ repacking empty 5
     ∷ repacking empty 8
+    ∷ repacking oneHead 8
     -- the reader's refusals come before 16
     ∷ repacking short 5
     ∷ repacking unreached 0
     ∷ []
-    ≡ leaves (refused 16 34) (room 33)
+    ≡ leaves (refused 16 34) []
+    ∷ leaves (refused 16 34) (room 33)
     ∷ leaves (answered 34 0 0) sheetC
     ∷ leaves (answered 34 0 0) (sheetC ++ room 3)
     ∷ leaves (answered 34 0 0) sheetC
@@ -89,6 +95,7 @@ pub repackings :
     ∷ leaves (answered 28 0 0) zeroHeadsPacked
     ∷ leaves (refused 16 6) (room 5)
     ∷ leaves (answered 6 0 0) (empty ++ room 2)
+    ∷ leaves (answered 8 0 0) oneHead
     ∷ leaves (refused 1 0) (room 5)
     ∷ leaves (refused 7 1) []
     ∷ []

@@ -17,7 +17,7 @@ pub record Alike (s t : List ℕ) : Type 0 where
   pub lots : lotCount s ≡ lotCount t
   pub lists : conditions s ≡ conditions t
 
--- Every service answers two sheets alike: the reader, the search with both its buffers, the refutation checker and the evaluator.
+-- Reader, search with both its buffers, refutation checker and evaluator answer two sheets alike, whatever else they are given.
 pub record ServedAlike (s t : List ℕ) : Type 0 where
   pub reads : readAnswer s ≡ readAnswer t
   pub searches : (grouping store : List ℕ) → searchOutcome s grouping store ≡ searchOutcome t grouping store

@@ -25,8 +25,8 @@ fn add_conditions(sheet: &[u8], m: u16, out: &mut [u8], w: Writer) -> Writer
     next
 }
 
-// Repacks a sheet, for any bytes and any buffer at all. What is written says what the sheet says, stays as it is when it is repacked again, and is answered by
-// every service as the sheet is. The sheet is read by the reader, and its chains once more by the writer.
+// Repacks a sheet, for any bytes and any buffer at all. What is written says what the sheet says, stays as it is when it is repacked again, and is answered as
+// the sheet is. The sheet is read by the reader, and its chains once more by the writer.
 pub fn repack(sheet: &[u8], out: &mut [u8]) -> WriteAnswer
     ensures answer { λ r. ⌜ writtenAnswer r ≡ repackAnswer (now (sheet .entry)) (now (out .entry)) ⌝ }
     ensures output { λ r. ⌜ now (out .exit) ≡ repackOut (now (sheet .entry)) (now (out .entry)) ⌝ }

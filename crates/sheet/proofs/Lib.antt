@@ -1,6 +1,7 @@
 pub mod Verdicts
 pub mod Further
 pub mod Numbered
+pub mod Lengths
 pub mod Readings
 pub mod Loops
 pub mod Times

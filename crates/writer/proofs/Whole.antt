@@ -34,30 +34,29 @@ record-then : (l : List ℕ) (place : ℕ) (t : Term) (next : ℕ) (rest : List 
 unfolding termRecord twoBytes
 record-then l place t next rest = sets-sets (termRecord t next) rest l place
 
-module _ (t : Term) (d : Draft) (leads : d .writer .link + 2 ≤ d .writer .place) where
-  -- The bytes with the number of the next record where the condition leads on.
-  abbrev led : List ℕ
-  led = sets (d .bytes) (d .writer .link) (twoBytes (d .writer .number .0))
+-- The bytes with the number of the next record where the condition leads on.
+abbrev led : Draft → List ℕ
+led d = sets (d .bytes) (d .writer .link) (twoBytes (d .writer .number .0))
 
-  -- One term: its record comes behind that.
-  term-stored : withTerm t d .bytes ≡ sets led (d .writer .place) (termRecord t 0)
-  unfolding twoBytes
-  term-stored = sets-before (twoBytes (d .writer .number .0)) (termRecord t 0) (d .bytes) (d .writer .link) (d .writer .place) leads
+-- One term: its record comes behind that.
+term-stored : (t : Term) (d : Draft) → d .writer .link + 2 ≤ d .writer .place → withTerm t d .bytes ≡ sets (led d) (d .writer .place) (termRecord t 0)
+unfolding twoBytes
+term-stored t d leads = sets-before (twoBytes (d .writer .number .0)) (termRecord t 0) (d .bytes) (d .writer .link) (d .writer .place) leads
 
 -- A term and those after it.
-terms-stored : (t : Term) (ts : List Term) (d : Draft) (leads : d .writer .link + 2 ≤ d .writer .place)
-    → withTerms (t ∷ ts) d .bytes ≡ sets (led t d leads) (d .writer .place) (chainRecords (d .writer .number .0) (t ∷ ts))
+terms-stored : (t : Term) (ts : List Term) (d : Draft) → d .writer .link + 2 ≤ d .writer .place
+    → withTerms (t ∷ ts) d .bytes ≡ sets (led d) (d .writer .place) (chainRecords (d .writer .number .0) (t ∷ ts))
 unfolding withTerms chainRecords
-terms-stored t [] d leads = term-stored t d leads ∙ ap (sets (led t d leads) (d .writer .place)) (sym (append-nil (termRecord t 0)))
+terms-stored t [] d leads = term-stored t d leads ∙ ap (sets (led d) (d .writer .place)) (sym (append-nil (termRecord t 0)))
 terms-stored t (u ∷ us) d leads =
     let place = d .writer .place in
     let number = d .writer .number .0 in
     let rest = chainRecords (number + 1) (u ∷ us) in
     terms-stored u us (withTerm t d) (omega arith)
     ∙ ap (λ (l : List ℕ). sets (sets l (place + 6) (twoBytes (number + 1))) (place + 8) rest) (term-stored t d leads)
-    ∙ ap (λ (l : List ℕ). sets l (place + 8) rest) (next-set (led t d leads) place t (number + 1))
-    ∙ record-then (led t d leads) place t (number + 1) rest
-    ∙ ap (λ (x : ℕ). sets (led t d leads) place (termRecord t x ++ chainRecords x (u ∷ us))) (add-one number)
+    ∙ ap (λ (l : List ℕ). sets l (place + 8) rest) (next-set (led d) place t (number + 1))
+    ∙ record-then (led d) place t (number + 1) rest
+    ∙ ap (λ (x : ℕ). sets (led d) place (termRecord t x ++ chainRecords x (u ∷ us))) (add-one number)
 
 -- A whole condition: its head, and its records.
 condition-stored : (ts : List Term) (d : Draft) → d .writer .head + 2 ≤ d .writer .place

@@ -11,7 +11,8 @@ use sheet::Condition;
 use sheet::Lot;
 use sheet::Record;
 
-// What a writer of sheets answers: the length that it wrote, or a refusal, on which nothing is written.
+// What a writer of sheets answers: the length that it wrote, or a refusal, on which nothing is written. A refusal here needs no more than its check and its
+// place; a writer whose refusals have to say more answers by an enum of its own.
 pub enum WriteAnswer {
     Written { length: u32 },
     Refused { check: u32, place: u32 },

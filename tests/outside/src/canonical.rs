@@ -7,9 +7,13 @@ use second::limits::{HEAD_LENGTH, HEADER_LENGTH, TERM_LENGTH};
 use second::reader::accept;
 use second::writer::sheet_bytes_in;
 
-/// The canonical bytes, in exactly the room that check 16 asks for; none of a sheet that is refused.
+/// The canonical bytes, in exactly the room that check 16 asks for; none of a sheet that the reader refuses too.
 pub fn canonical(sheet: &[u8]) -> Result<Option<Vec<u8>>, String> {
-    let [16, length, 0, 0] = plain(raw::repack(sheet, &mut [])) else { return Ok(None) };
+    let asked = plain(raw::repack(sheet, &mut []));
+    let [16, length, 0, 0] = asked else {
+        let refused = asked[0] != 0 && asked == plain(raw::read(sheet));
+        return if refused { Ok(None) } else { Err(format!("with no room the repacker gives {asked:?}")) };
+    };
     let mut out = Guarded::new(length as usize, 0);
     let answer = plain(raw::repack(sheet, out.inside()));
     if answer != [0, length, 0, 0] || !out.is_intact() {

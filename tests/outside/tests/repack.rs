@@ -93,7 +93,7 @@ fn equal_bytes_mean_equal_lots_and_conditions() {
     assert!(alike > 1000 && different > 1000);
 }
 
-/// A sheet of the greatest size, its conditions' records one in turn from each, or all of them backwards.
+/// As many conditions and terms as there may be, the conditions' records one in turn from each, or all of them backwards; and all terms in one condition.
 #[test]
 fn longest_sheets() {
     with_stack(|| {
