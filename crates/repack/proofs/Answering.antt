@@ -1,15 +1,13 @@
 -- The checks that a repacking can fail, 1 to 7 on the sheet and then 16, and what it answers and leaves by them.
 use Prim.Native.Nat.{ℕ, _≤_, _<_}
 use mathlib.Core.List.{List, [], _∷_}
-use mathlib.Core.Path.{_≡_, refl, sym, ap, subst, _∙_}
+use mathlib.Core.Path.{_≡_, refl, sym, ap, _∙_}
 use native.Mathlib.Omega.{arith}
-use borrow.Author.Tests.{lt-ltb, le-ltb}
-use lib.Dec.{ltb}
 use lib.ListN.{length, take, drop}
 use lib.Seq.{take-append-seam}
 use Rattle.sheet.specs.declared.Verdict.{Verdict}
 use Rattle.sheet.specs.declared.Verdict.the-variants.{Passes, Refuses}
-use Rattle.sheet.specs.Checks.{Accepted, orElse, firstRefusal, refusesIf, sheetVerdict}
+use Rattle.sheet.specs.Checks.{Accepted, sheetVerdict}
 use Rattle.sheet.specs.Answers.{Answer, answered, answerOf}
 use Rattle.sheet.proofs.Further.{further-passes}
 use Rattle.sheet.proofs.Lengths.{sheet-first, too-short, long-enough, then-numbered}
@@ -73,7 +71,8 @@ module _ (s out : List ℕ) where
       go : (v : Verdict) → repackVerdict s out ≡ v → answered n second third ≡ answerBy s v → Fitted n
       go (Refuses check place) q e = let z : _≡_ {A = ℕ} 0 1 = cc in absurd (omega arith)
       go Passes q e =
-          let count : n ≡ length (repacked s) = (let l : n ≡ repackedLength s = cc in l) ∙ sym (repacked-length s) in
+          let told : n ≡ repackedLength s = cc in
+          let count = told ∙ sym (repacked-length s) in
           record {
             accepted = passes-accepted q;
             first = rw (output-by Passes q, count) (take-append-seam (repacked s) (drop (length (repacked s)) out));
