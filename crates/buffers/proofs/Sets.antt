@@ -1,7 +1,7 @@
 -- Runs of stores: one after another, one before another, one over another.
 use Prim.Native.Nat.{ℕ, suc, _+_, _≤_, _<_}
 use mathlib.Core.List.{List, [], _∷_, _++_}
-use mathlib.Core.Path.{_≡_, refl, _∙_}
+use mathlib.Core.Path.{_≡_, refl, sym, ap, _∙_}
 use native.Mathlib.Nat.{add-zero, add-suc, suc-add}
 use native.Mathlib.Omega.{arith}
 use lib.ListN.{length, set}
@@ -31,3 +31,10 @@ sets-again [] (y ∷ ys) l i h = absurd (omega arith)
 sets-again (x ∷ xs) [] l i h = absurd (omega arith)
 sets-again (x ∷ xs) (y ∷ ys) l i h =
     rw (set-sets xs (set l i x) i (suc i) y (omega arith), set-set l i x y) (sets-again xs ys (set l i y) (suc i) (omega arith))
+
+-- The end of a run written anew: what stands before it stays.
+pub sets-end : (front old new l : List ℕ) (i : ℕ) → length old ≡ length new → sets (sets l i (front ++ old)) (i + length front) new ≡ sets l i (front ++ new)
+sets-end front old new l i h =
+    ap (λ (s : List ℕ). sets s (i + length front) new) (sym (sets-sets front old l i))
+    ∙ sets-again old new (sets l i front) (i + length front) h
+    ∙ sets-sets front new l i

@@ -27,9 +27,9 @@ module _ {s : List ℕ} {n m k : ℕ} (read : ReadAs s n m k) where
   needed = ap₂ sheetLength counted termed
 
   module _ (out : List ℕ) (fits : sheetLength m k ≤ length out) where
-    -- Behind the header there is room for all conditions.
-    pub counts-room : RoomForAll (conditions s) (begun n m k out)
-    counts-room = rw (← counted, ← termed) (room-begun n m k out (omega (arith, read .records, sound s (read .accepted) .header .records)) fits)
+    -- Behind the header, whatever lots it has, there is room for all conditions.
+    pub counts-room : (lots : ℕ) → RoomForAll (conditions s) (begun lots m k out)
+    counts-room lots = rw (← counted, ← termed) (room-begun lots m k out (omega (arith, read .records, sound s (read .accepted) .header .records)) fits)
 
     -- All of them, behind the header, are the packed sheet.
     pub counts-whole : withConditions (conditions s) (begun n m k out) .bytes ≡ written (repacked s) out

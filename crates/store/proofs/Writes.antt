@@ -1,12 +1,12 @@
 -- The bytes of a node record that stores leave.
 use Prim.Native.Nat.{ℕ, _+_, _*_, _-_}
-use mathlib.Core.List.{List, _∷_, _++_}
-use mathlib.Core.Path.{_≡_, refl, sym, ap, _∙_}
+use mathlib.Core.List.{List, _++_}
+use mathlib.Core.Path.{_≡_, refl, ap, _∙_}
 use native.Mathlib.Omega.{arith}
 use lib.ListN.{length}
 use lib.Seq.{sets}
 use Rattle.buffers.specs.Bytes.{twoBytes, fieldBytes}
-use Rattle.buffers.proofs.Sets.{sets-sets, sets-before, sets-again}
+use Rattle.buffers.proofs.Sets.{sets-sets, sets-before, sets-end}
 use Rattle.store.specs.Records.{NodeRecord, splitRecord, recordLength, nextPlace, nextBytes, setNext, fields, encode}
 use Rattle.store.proofs.Codec.{encode-length}
 
@@ -27,11 +27,7 @@ after-record r bytes store before =
 next-set : (l : List ℕ) (at a b next : ℕ)
     → sets (sets l at (encode (splitRecord a b 0))) (at + nextPlace) (nextBytes next) ≡ sets l at (encode (splitRecord a b next))
 unfolding encode twoBytes
-next-set l at a b next =
-    let front = 1 ∷ 0 ∷ twoBytes a ++ twoBytes b in
-    ap (λ (s : List ℕ). sets s (at + nextPlace) (nextBytes next)) (sym (sets-sets front (nextBytes 0) l at))
-    ∙ sets-again (nextBytes 0) (nextBytes next) (sets l at front) (at + nextPlace) refl
-    ∙ sets-sets front (nextBytes next) l at
+next-set l at a b next = sets-end (fieldBytes 1 a b) (nextBytes 0) (nextBytes next) l at refl
 
 -- once bytes were written after it.
 pub next-after : (a b next : ℕ) (bytes store : List ℕ) (before : ℕ)

@@ -7,9 +7,9 @@ use native.Mathlib.Numerals.{add-one}
 use native.Mathlib.Omega.{arith}
 use lib.ListN.{length, length-append}
 use lib.Seq.{sets, sets-eq}
-use Rattle.buffers.specs.Bytes.{twoBytes}
+use Rattle.buffers.specs.Bytes.{twoBytes, fieldBytes}
 use Rattle.buffers.specs.Written.{written}
-use Rattle.buffers.proofs.Sets.{sets-sets, sets-before, sets-again}
+use Rattle.buffers.proofs.Sets.{sets-sets, sets-before, sets-again, sets-end}
 use Rattle.sheet.specs.Format.{headerLength}
 use Rattle.sheet.specs.Conditions.{Term, signOf, firstLot, secondLot}
 use Rattle.canonical.specs.Canonical.{termRecord, firstRecord, chainRecords, sheetRecords, headsFrom, canonical, canonicalLength}
@@ -22,11 +22,7 @@ use Rattle.writer.specs.Drafts.{Draft, begun, withCondition, withTerm, w
 -- A record whose next is set after it was written without one.
 next-set : (l : List ℕ) (place : ℕ) (t : Term) (next : ℕ) → sets (sets l place (termRecord t 0)) (place + 6) (twoBytes next) ≡ sets l place (termRecord t next)
 unfolding termRecord twoBytes
-next-set l place t next =
-    let front = signOf t ∷ 0 ∷ twoBytes (firstLot t) ++ twoBytes (secondLot t) in
-    ap (λ (s : List ℕ). sets s (place + 6) (twoBytes next)) (sym (sets-sets front (twoBytes 0) l place))
-    ∙ sets-again (twoBytes 0) (twoBytes next) (sets l place front) (place + 6) refl
-    ∙ sets-sets front (twoBytes next) l place
+next-set l place t next = sets-end (fieldBytes (signOf t) (firstLot t) (secondLot t)) (twoBytes 0) (twoBytes next) l place refl
 
 -- Records behind one.
 record-then : (l : List ℕ) (place : ℕ) (t : Term) (next : ℕ) (rest : List ℕ)

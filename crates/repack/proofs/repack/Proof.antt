@@ -67,7 +67,7 @@ add-conditions-requires c κs =
     let begin = c .before .before .before in
     let tested = begin .before .before in
     let a = accepted (past tested) in
-    (record { accepted = a .accepted; counted = a .conditions }, rw (begin .begin .ensures) (counts-room a (begun (past tested) .args .out .now) (fits tested)))
+    (record { accepted = a .accepted; counted = a .conditions }, rw (begin .begin .ensures) (counts-room a (begun (past tested) .args .out .now) (fits tested) _))
 
 returns-2 : tie.Need-returns-2
 returns-2 c =
