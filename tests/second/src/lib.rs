@@ -1,6 +1,7 @@
-//! A second implementation of document 01, and of document 02's job 1, which shares nothing with the product: it was written from the papers' text alone and
-//! follows it word for word, without regard to time. A sentence in quotation marks in a comment is document 01's; in the files that say so it is document 02's.
-//! Where the papers say consignment, numbering, grounds list, judge and packed, the code says class, assignment, refutation, evaluator and canonical.
+//! A second implementation of document 01, and of document 02's job 1, which shares no code with the product: it was written from the papers' text and, for
+//! document 02, the settled readings of it, and follows the text word for word, without regard to time. A sentence in quotation marks in a comment is the
+//! papers'. Where they say consignment, numbering, grounds list, judge and packed sheet, the code says class, assignment, refutation, evaluator and canonical
+//! bytes.
 pub mod answer;
 pub mod evaluator;
 pub mod limits;
