@@ -4,8 +4,8 @@
 #     python3 tests/make_compare.py input > crates/compare/stdin
 #     python3 tests/make_compare.py output > crates/compare/stdout
 #
-# The counts come from this file alone: it generates the same sheets, and has its own reader, search, checker and second solver, written from document 01.
-# Nothing differs where the program is right, and its second solver judges the sheets whose terms name at most six lots.
+# The counts come from this file alone: it generates the same sheets, and has its own reader, search, checker and second solver, written from document 01 and
+# the second request of document 02. Nothing differs where the program is right, and its second solver judges the sheets whose terms name at most six lots.
 
 import itertools
 import sys
@@ -21,7 +21,7 @@ def number(data, at):
 
 
 def sheet(lots, conditions):
-    """The bytes of a sheet: a condition is a list of terms, each a sign (1 same, 2 apart) and two lots; its records follow each other."""
+    """The bytes of a sheet: a condition is a list of terms, each a sign (1 same, 2 apart) and two lots, and its records follow each other; [] is withdrawn."""
     heads, records = [], []
     for terms in conditions:
         heads.append(len(records) + 1 if terms else 0)
@@ -31,8 +31,11 @@ def sheet(lots, conditions):
     return numbers(lots, len(heads), len(records)) + numbers(*heads) + b''.join(records)
 
 
+VACANT = 'vacant'
+
+
 def read(data):
-    """The lots and the conditions of a sheet, or the check and the place of its refusal."""
+    """The lots and the conditions of a sheet, a withdrawn one with no term, or the check and the place of its refusal."""
     if len(data) < 6:
         return 'refused', 1, 0
     n, m, k = number(data, 0), number(data, 2), number(data, 4)
@@ -48,6 +51,9 @@ def read(data):
     records = [None]
     for r in range(k):
         at = 6 + 2 * m + 8 * r
+        if data[at:at + 8] == bytes(8):
+            records.append(VACANT)
+            continue
         sign, spare, a, b, following = data[at], data[at + 1], number(data, at + 2), number(data, at + 4), number(data, at + 6)
         if sign not in (1, 2) or spare or not 1 <= a <= n or not 1 <= b <= n or following > k:
             return 'refused', 5, r + 1
@@ -56,6 +62,8 @@ def read(data):
     for head in heads:
         r, terms = head, []
         while r:
+            if records[r] is VACANT:
+                return 'refused', 17, r
             if r in seen:
                 return 'refused', 6, r
             seen.add(r)
@@ -63,7 +71,7 @@ def read(data):
             r = records[r][3]
         conditions.append(terms)
     for r in range(1, k + 1):
-        if r not in seen:
+        if r not in seen and records[r] is not VACANT:
             return 'refused', 7, r
     return 'accepted', n, conditions
 
@@ -89,7 +97,7 @@ def can_be_met(conditions):
 
     def meets(way):
         group = dict(zip(names, way))
-        return all(any((group[a] == group[b]) == (sign == 1) for sign, a, b in terms) for terms in conditions)
+        return all(not terms or any((group[a] == group[b]) == (sign == 1) for sign, a, b in terms) for terms in conditions)
     return any(map(meets, WAYS[len(names)]))
 
 
@@ -119,12 +127,15 @@ def value_by_lots(decisions, sign, a, b):
     return joined
 
 
-def search(conditions, value=term_value, kept=False):
-    """The verdict and the node records: [kind, first, second, next]. `kept`, a wrong turn: a join stays when the apart branch starts."""
+def search(conditions, value=term_value, kept=False, taken=False):
+    """The verdict and the node records: [kind, first, second, next]. `kept`, a wrong turn: a join stays when the apart branch starts. `taken`, another one: a
+    withdrawn condition is not passed over."""
     nodes = []
 
     def visit(decisions):
         for c, terms in enumerate(conditions):
+            if not terms and not taken:
+                continue
             values = [value(decisions, *t) for t in terms]
             if True in values or any(v is None and t[0] == 2 for v, t in zip(values, terms)):
                 continue
@@ -171,7 +182,8 @@ def check(data, nodes):
         if not 1 <= first <= len(conditions) or second or following:
             return 'refused', 11, r
         decisions = [tuple(p[:3]) for p in path]
-        if any(term_value(decisions, *t) is not False for t in conditions[first - 1]):
+        terms = conditions[first - 1]
+        if not terms or any(term_value(decisions, *t) is not False for t in terms):
             return 'refused', 12, r
         while path and not path[-1][0]:
             path.pop()
@@ -185,7 +197,8 @@ def check(data, nodes):
 
 # The generated sheets.
 
-def generated(count):
+def generated(count, relinked=False):
+    """One condition of six is withdrawn. Relinked: a record is made vacant, or a next is set to any record, or both."""
     state = 1
 
     def below(bound):
@@ -193,10 +206,67 @@ def generated(count):
         state = (state * 1103515245 + 12345) % 2**31
         return state // 65536 % bound
     for _ in range(count):
-        n, m, conditions = 1 + below(6), 1 + below(8), []
-        for _ in range(m):
+        n, m, conditions, drawn = 1 + below(6), 1 + below(8), [], []
+        for c in range(m):
             conditions.append([(1 if below(5) < 3 else 2, 1 + below(n), 1 + below(n)) for _ in range(1 + below(4))])
-        yield sheet(n, conditions)
+            drawn += [c] * (below(6) == 0)
+        data = sheet(n, conditions)
+        for c in drawn:
+            data = withdrawn(data, c + 1)
+        if relinked:
+            k = number(data, 4)
+            way, blank, start, end = below(3), 1 + below(k), 1 + below(k), 1 + below(k)
+            if way != 0:
+                data = blanked(data, blank)
+            if way != 1:
+                data = linked(data, start, end)
+        yield data
+
+
+# Heads and records changed.
+
+def head_place(condition):
+    return 6 + 2 * (condition - 1)
+
+
+def record_place(data, record):
+    return 6 + 2 * number(data, 2) + 8 * (record - 1)
+
+
+def headed(data, condition, head):
+    """The condition begins at that record."""
+    at = head_place(condition)
+    return data[:at] + numbers(head) + data[at + 2:]
+
+
+def linked(data, record, following):
+    """The next of the record is that one."""
+    at = record_place(data, record) + 6
+    return data[:at] + numbers(following) + data[at + 2:]
+
+
+def blanked(data, *records):
+    """These records are vacant."""
+    for record in records:
+        at = record_place(data, record)
+        data = data[:at] + bytes(8) + data[at + 8:]
+    return data
+
+
+def chain_of(data, condition):
+    """The records of a condition, in the order of its chain."""
+    record, chain = number(data, head_place(condition)), []
+    while record:
+        chain.append(record)
+        record = number(data, record_place(data, record) + 6)
+    return chain
+
+
+def withdrawn(data, *conditions):
+    """These conditions have a zero head, and their records are vacant."""
+    for condition in conditions:
+        data = headed(blanked(data, *chain_of(data, condition)), condition, 0)
+    return data
 
 
 # The families of source document 001, part 7.
@@ -226,14 +296,15 @@ def changed(data, at, value):
 
 S, T = 1, 2  # same, apart
 
+A = sheet(3, [[(S, 1, 2)], [(S, 2, 3)], [(T, 1, 3)]])
 C = sheet(3, [[(S, 1, 2), (S, 1, 3)], [(T, 1, 2)]])
+D = sheet(3, [[(T, 1, 2), (T, 2, 3), (T, 3, 1)], [(S, 1, 2), (S, 2, 3)], [(S, 1, 2), (S, 3, 1)], [(S, 2, 3), (S, 3, 1)]])
 
 GROUPS = [
     ('starred', [
-        sheet(3, [[(S, 1, 2)], [(S, 2, 3)], [(T, 1, 3)]]),
+        A,
         sheet(3, [[(S, 1, 2), (T, 2, 3)], [(S, 1, 3), (T, 1, 2), (S, 2, 3)], [(T, 1, 3)]]),
-        C,
-        sheet(3, [[(T, 1, 2), (T, 2, 3), (T, 3, 1)], [(S, 1, 2), (S, 2, 3)], [(S, 1, 2), (S, 3, 1)], [(S, 2, 3), (S, 3, 1)]]),
+        C, D,
         sheet(0, []), sheet(0, [[]]), sheet(1, [[(S, 1, 1)]]), sheet(1, [[(T, 1, 1)]]),
     ]),
     ('unstarred', [
@@ -253,7 +324,25 @@ GROUPS = [
         changed(changed(C, 8, 4), 10, 0), changed(changed(C, 10, 0), 18, 0), changed(changed(C, 16, 1), 26, 0),
         changed(C, 16, 1), changed(C, 16, 3), changed(C, 8, 2), changed(C, 8, 1), changed(C, 16, 0), changed(C, 6, 0), changed(C, 8, 0),
     ]),
-    ('phe', [phe(n) for n in range(1, 11)]),
+    ('withdrawn', [  # some conditions of starred sheets, in the middle and at both ends, and all of them; a refutation that goes on around withdrawn ones
+        *[withdrawn(A, c) for c in (1, 2, 3)], *[withdrawn(C, c) for c in (1, 2)], *[withdrawn(D, c) for c in (1, 2, 3, 4)],
+        withdrawn(A, 1, 3), withdrawn(A, 1, 2, 3), withdrawn(D, 2, 3), sheet(0, [[], [], []]), sheet(128, [[]] * 256),
+        sheet(3, [[], [(S, 1, 2)], [], [(S, 2, 3)], [(T, 1, 3)], []]),
+        withdrawn(sheet(3, [[(S, 1, 3)], [(S, 1, 2)], [(T, 1, 1)], [(S, 2, 3)], [(T, 1, 3)]]), 1, 3),
+    ]),
+    ('vacant', [  # between the records of a chain, and where there are no conditions and no lots; then bytes that are not all zero, and records not blanked
+        own_records(3, [2], [(0, 0, 0, 0), (S, 1, 2, 4), (0, 0, 0, 0), (T, 1, 2, 0)]), own_records(1, [3], [(0, 0, 0, 0), (0, 0, 0, 0), (T, 1, 1, 0)]),
+        numbers(3, 0, 2) + bytes(16), numbers(0, 0, 1) + bytes(8), numbers(0, 1, 1) + bytes(10),
+        *[changed(withdrawn(C, 1), 10 + i, 1) for i in range(8)],
+        headed(C, 1, 0), headed(C, 2, 0), headed(blanked(C, 1), 1, 0), headed(blanked(C, 2), 1, 0), linked(withdrawn(C, 2), 1, 0),
+    ]),
+    ('into vacant', [  # from a head and from a next; checks 4 and 5 before it, 7 behind it; and the walk alone decides between it and a loop
+        blanked(C, 1), blanked(C, 2), blanked(C, 3), blanked(C, 2, 3), headed(blanked(C, 3), 1, 3),
+        headed(blanked(C, 1), 2, 4), changed(blanked(C, 1), 26, 3), linked(blanked(C, 3), 1, 0),
+        linked(blanked(C, 2), 3, 3), linked(blanked(C, 3), 1, 1), headed(headed(linked(blanked(C, 3), 1, 1), 1, 3), 2, 1),
+        headed(headed(linked(blanked(C, 1), 3, 3), 1, 3), 2, 1), headed(withdrawn(C, 1), 1, 2), headed(withdrawn(C, 2), 2, 2),
+    ]),
+    ('phe', [phe(n) for n in range(2, 11)]),  # in phe(1) there is no other lot, and so no term
     ('circ', [circ(n) for n in range(1, 11)]),
     ('mark on lots', [  # a mark tested on the two lots takes two nodes more
         sheet(3, [[(T, 1, 2)], [(S, 3, 2)], [(S, 2, 1), (S, 1, 3)]]),
@@ -293,6 +382,14 @@ def changes(data):
             yield changed(data, at, value)
 
 
+def withdrawals(data):
+    """Each condition in three ways: its head zero and its records left, withdrawn, its records vacant and its head left."""
+    for c in range(1, number(data, 2) + 1):
+        yield headed(data, c, 0)
+        yield withdrawn(data, c)
+        yield headed(withdrawn(data, c), c, number(data, head_place(c)))
+
+
 class Damage:
     def __init__(self):
         self.tried = self.passed = self.wrong = self.untested = 0
@@ -309,8 +406,8 @@ class Damage:
         return '%s: tried %d passed %d wrong %d untested %d differ 0' % (label, self.tried, self.passed, self.wrong, self.untested)
 
 
-def group_line(name, sheets, lists, bytes_of_sheets):
-    """The line of a group; the refutations that the second solver bears out are damaged."""
+def group_line(name, sheets, lists, bytes_of_sheets, conditions):
+    """The line of a group; the refutations that the second solver bears out are damaged, and conditions of their sheets withdrawn."""
     verdicts, count, untested = [], 0, 0
     for data in sheets:
         said, nodes, judged = answer(data)
@@ -324,8 +421,14 @@ def group_line(name, sheets, lists, bytes_of_sheets):
                 lists.count(data, other)
             for other in changes(data):
                 bytes_of_sheets.count(other, refutation)
+            for other in withdrawals(data):
+                conditions.count(other, refutation)
     each = ' '.join('%s %d' % (v, verdicts.count(v)) for v in ('met', 'cannot', 'refused'))
     return '%s: sheets %d %s nodes %d untested %d differ 0' % (name, len(verdicts), each, count, untested)
+
+
+def said(verdict):
+    return ' '.join(map(str, verdict))
 
 
 def many_splits(s):
@@ -337,28 +440,32 @@ def write_input():
     for name, sheets in GROUPS:
         print('group ' + name)
         for data in sheets:
-            print(('%s: %s' % (' '.join(map(str, answer(data)[0])), data.hex(' ', -2))).rstrip())
+            print(('%s: %s' % (said(answer(data)[0]), data.hex(' ', -2))).rstrip())
         print('end')
 
 
 def write_output():
-    lists, sheets = Damage(), Damage()
-    print(group_line('generated', generated(600), lists, sheets))
+    damages = Damage(), Damage(), Damage()
+    print(group_line('generated', generated(600), *damages))
+    print(group_line('relinked', generated(600, relinked=True), *damages))
     for name, group in GROUPS:
-        print(group_line(name, group, lists, sheets))
-    print(lists.line('damaged lists'))
-    print(sheets.line('damaged sheets'))
+        print(group_line(name, group, *damages))
+    for damage, label in zip(damages, ('damaged lists', 'damaged sheets', 'withdrawn conditions')):
+        print(damage.line(label))
+    print('ground of a withdrawn condition: %s' % said(check(sheet(1, [[]]), list_bytes([[2, 1, 0, 0]]))))
     for s in (1024, 1025):
-        print('splits on a path %d: %s' % (s, ' '.join(map(str, check(sheet(1, [[]]), list_bytes(many_splits(s)))))))
+        print('splits on a path %d: %s' % (s, said(check(sheet(1, [[(T, 1, 1)]]), list_bytes(many_splits(s))))))
 
 
 # A program that took the wrong turn would answer these sheets otherwise.
-TURNS = {name: [read(data)[2] for data in sheets] for name, sheets in GROUPS if name in ('mark on lots', 'join stays', 'one ground')}
+TURNS = {name: [read(data)[2] for data in sheets] for name, sheets in GROUPS if name in ('withdrawn', 'mark on lots', 'join stays', 'one ground')}
+assert all(search(c, taken=True) != search(c) for c in TURNS['withdrawn'])
 assert all(len(search(c, value_by_lots)[1]) != len(search(c)[1]) for c in TURNS['mark on lots'])
 assert all((search(c, kept=True)[0], search(c)[0]) == ('cannot', 'met') for c in TURNS['join stays'])
 assert all(search(c)[0] == 'met' and any(n[0] == 2 for n in search(c)[1]) for c in TURNS['one ground'])
 
-for n in range(1, 11):
+for n in range(2, 11):
     assert answer(phe(n))[0] == ('cannot', n * n + n - 1)
+for n in range(1, 11):
     assert answer(circ(n))[0] == ('cannot', n * n - n + 1)
 {'input': write_input, 'output': write_output}[sys.argv[1]]()

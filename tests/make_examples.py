@@ -3,9 +3,9 @@
 #
 #     python3 tests/make_examples.py > crates/print_examples/stdin
 #
-# The cases are the starred sheets of document 01 (but for "C with S = 3": the program has 7,000 records, and the row stands in the proved table), a
-# refusal by each of checks 1 to 7 and by a full store, sheets with no lots and with the most, and phe(5) and circ(5) of source document 001, part 7.
-# Nothing here searches: what the program is to print for these stands in crates/print_examples/stdout.
+# The cases are the starred sheets of document 01 (but for "C with S = 3": the program has 7,000 records, and the row stands in the proved table), sheets with
+# withdrawn conditions and vacant records, a refusal by each of checks 1 to 7 and 17 and by a full store, sheets with no lots and with the most, and phe(5) and
+# circ(5) of source document 001, part 7. Nothing here searches: what the program is to print for these stands in crates/print_examples/stdout.
 
 
 def numbers(*values):
@@ -20,7 +20,7 @@ def term(text):
 
 
 def sheet(lots, conditions):
-    """The bytes of a sheet: each condition is its terms joined by ' or ', and has its records one after the other; '' has no term."""
+    """The bytes of a sheet: each condition is its terms joined by ' or ', and has its records one after the other; '' is withdrawn."""
     heads, records = [], []
     for condition in conditions:
         terms = [term(t) for t in condition.split(' or ')] if condition else []
@@ -34,6 +34,14 @@ def sheet(lots, conditions):
 def changed(data, at, value):
     """The same bytes but for one."""
     return data[:at] + bytes([value]) + data[at + 1:]
+
+
+def blanked(data, *records):
+    """The same bytes but for these records, which are vacant."""
+    for record in records:
+        at = 6 + 2 * int.from_bytes(data[2:4], 'little') + 8 * (record - 1)
+        data = data[:at] + bytes(8) + data[at + 8:]
+    return data
 
 
 def phe(n):
@@ -69,15 +77,25 @@ CASES = [
     ('one condition, head zero', sheet(0, [''])),
     ('same 1 1', sheet(1, ['same 1 1'])),
     ('apart 1 1', sheet(1, ['apart 1 1'])),
-    ('no lots, three conditions of no term', sheet(0, ['', '', ''])),
+    ('no lots, three conditions withdrawn', sheet(0, ['', '', ''])),
+    ('C, condition 1 withdrawn', blanked(changed(C, 6, 0), 1, 2)),
+    ('C, condition 2 withdrawn', blanked(changed(C, 8, 0), 3)),
+    ('A behind a withdrawn condition', sheet(3, ['', 'same 1 2', 'same 2 3', 'apart 1 3'])),
+    ('a vacant record before the only term', numbers(1, 1, 2) + numbers(2) + bytes(8) + bytes([1, 0]) + numbers(1, 1, 0)),
+    ('no lots and conditions, two vacant records', numbers(0, 0, 2) + bytes(16)),
     ('128 lots, no condition', sheet(128, [])),
     ('check 1, five bytes', C[:5]),
     ('check 2, 129 lots', sheet(129, [])),
     ('check 3, C and a byte more', C + bytes(1)),
     ('check 4, head 2 of C above k', changed(C, 8, 4)),
     ('check 5, sign 3 in record 2 of C', changed(C, 18, 3)),
+    ('check 5, record 2 of C all zero but for the last byte', changed(blanked(C, 2), 25, 1)),
+    ('check 17, a next of C on a vacant record', blanked(C, 2)),
+    ('check 17, a head of C on a vacant record', blanked(C, 3)),
     ('check 6, a next that is its own record', numbers(1, 1, 1) + numbers(1) + bytes([1, 0]) + numbers(1, 1, 1)),
     ('check 7, record 1 on no chain', numbers(1, 1, 1) + numbers(0) + bytes([1, 0]) + numbers(1, 1, 0)),
+    ('check 7, head 1 of C zero and its records left', changed(C, 6, 0)),
+    ('check 7, head 1 of C zero and one of its records left', blanked(changed(C, 6, 0), 1)),
     ('check 9, 8189 nodes', doubling(11)),
     ('phe 5', phe(5)),
     ('circ 5', circ(5)),

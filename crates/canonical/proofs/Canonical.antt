@@ -37,9 +37,9 @@ module _ (n : ℕ) (tss : List (List Term)) (within : Within n tss) where
   count-conditions = omega arith
 
   -- and so many terms.
-  count-records : recordCount (canonical n tss) ≡ length (flatten tss)
+  pub canonical-records : recordCount (canonical n tss) ≡ length (flatten tss)
   unfolding canonical number twoBytes
-  count-records = omega arith
+  canonical-records = omega arith
 
   header : HasHeader (canonical n tss) (headerAt (canonical n tss))
   header =
@@ -47,8 +47,8 @@ module _ (n : ℕ) (tss : List (List Term)) (within : Within n tss) where
         counts = refl;
         lots = rw canonical-lots (within .lots);
         conditions = rw count-conditions (within .conditions);
-        records = rw count-records (within .records);
-        whole = rw (count-conditions, count-records) (canonical-length n tss);
+        records = rw canonical-records (within .records);
+        whole = rw (count-conditions, canonical-records) (canonical-length n tss);
       }
 
   -- Its heads and chains are laid one after another.
@@ -62,16 +62,16 @@ module _ (n : ℕ) (tss : List (List Term)) (within : Within n tss) where
 
   -- It is accepted,
   pub canonical-accepted : Accepted (canonical n tss)
-  canonical-accepted = laid-accepted (canonical n tss) tss count-conditions count-records laid header (rw canonical-lots (within .terms))
+  canonical-accepted = laid-accepted (canonical n tss) tss count-conditions canonical-records laid header (rw canonical-lots (within .terms))
 
   -- has these conditions,
   pub canonical-conditions : conditions (canonical n tss) ≡ tss
-  canonical-conditions = laid-conditions (canonical n tss) tss count-conditions count-records laid
+  canonical-conditions = laid-conditions (canonical n tss) tss count-conditions canonical-records laid
 
   -- and "the reader then answers n, m and k".
   pub canonical-read : readAnswer (canonical n tss) ≡ answered n (length tss) (length (flatten tss))
   unfolding readAnswer
-  canonical-read = rw (canonical-accepted, canonical-lots, count-conditions, count-records)
+  canonical-read = rw (canonical-accepted, canonical-lots, count-conditions, canonical-records)
 
 -- Document 01's sheet C.
 sheet-C : canonical 3 ((same 1 2 ∷ same 1 3 ∷ []) ∷ (apart 1 2 ∷ []) ∷ [])

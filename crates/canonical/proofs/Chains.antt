@@ -8,12 +8,13 @@ use native.Mathlib.Omega.{arith}
 use lib.Dec.{eqb, leb}
 use lib.ListN.{length, length-append}
 use borrow.Author.Tests.{eqb-true, eqb-false, ne-eqb, leb-true, leb-false}
-use Rattle.sheet.specs.Format.{lotCount, conditionCount, recordCount, headAt, signAt, spareAt, firstLotAt, secondLotAt, nextAt}
+use Rattle.sheet.specs.Format.{lotCount, conditionCount, recordCount, headAt, sameSign, apartSign, signAt, spareAt, firstLotAt, secondLotAt, nextAt, vacant}
 use Rattle.sheet.specs.Inner.{headerAt, HasHeader}
 use Rattle.sheet.specs.Checks.{Accepted, reached, member, walkChain, walkChains, walked}
 use Rattle.sheet.specs.Conditions.{Term, same, apart, termAt, chain, recordsFrom, termsFrom, countUp, conditionAt, conditions, signOf, firstLot, secondLot, TermIn}
 use Rattle.canonical.specs.Canonical.{firstRecord}
 use Rattle.buffers.specs.Lists.{All}
+use Rattle.sheet.proofs.Vacant.{sign-filled}
 use Rattle.sheet.proofs.Accepted.{SoundRecord}
 use Rattle.sheet.proofs.Accepting.{accepted}
 
@@ -68,6 +69,14 @@ upto-member (suc p) x low high = go (eqb x (suc p)) refl (upto-member p x low)
 -- ---- one chain
 
 module _ (s : List ℕ) where
+  -- (a record that a term is laid in has its sign, and so isn't vacant)
+  record-signed : (r next : ℕ) (t : Term) → RecordIs s r t next → (signAt s r ≡ sameSign) ⊎ (signAt s r ≡ apartSign)
+  record-signed r next (same a b) is = inl (is .sign)
+  record-signed r next (apart a b) is = inr (is .sign)
+
+  record-filled : (r next : ℕ) (t : Term) → RecordIs s r t next → vacant s r ≡ false
+  record-filled r next t is = sign-filled s r (record-signed r next t is)
+
   -- It is walked from its first record to its last,
   runs-walk : (ts : List Term) (fuel p : ℕ) → Runs s p ts → length ts < fuel
       → walkChain s fuel (countDown p) (firstRecord (suc p) ts) ≡ reached (countDown (p + length ts))
@@ -76,7 +85,7 @@ module _ (s : List ℕ) where
   runs-walk [] (suc fuel) p runs h = let e : p + 0 ≡ p = omega arith in rw e
   runs-walk (t ∷ ts) (suc fuel) p runs h =
       let e : p + suc (length ts) ≡ suc p + length ts = omega arith in
-      rw (above-absent p (suc p) (omega arith), runs .0 .after, e) (runs-walk ts fuel (suc p) (runs .1) (omega arith))
+      rw (record-filled (suc p) _ t (runs .0), above-absent p (suc p) (omega arith), runs .0 .after, e) (runs-walk ts fuel (suc p) (runs .1) (omega arith))
 
   -- (the term of a record is the one laid there)
   term-is : (r next : ℕ) (t : Term) → RecordIs s r t next → termAt s r ≡ t
@@ -96,16 +105,12 @@ module _ (s : List ℕ) where
   record-sound : (r next : ℕ) (t : Term) → RecordIs s r t next → TermIn (lotCount s) t → next ≤ recordCount s → SoundRecord s r
   record-sound r next t is lots h =
       record {
-        sign = known t (is .sign);
+        sign = record-signed r next t is;
         spare = is .spare;
         first = rw (is .first) (lots .0);
         second = rw (is .second) (lots .1);
         next = rw (is .after) h;
       }
-    where
-      known : (t : Term) → signAt s r ≡ signOf t → (signAt s r ≡ 1) ⊎ (signAt s r ≡ 2)
-      known (same a b) e = inl e
-      known (apart a b) e = inr e
 
   -- and its records are in range.
   runs-sound : (ts : List Term) (p : ℕ) → Runs s p ts → All (TermIn (lotCount s)) ts → p + length ts ≤ recordCount s
@@ -183,10 +188,10 @@ module _ (s : List ℕ) (tss : List (List Term)) (m : conditionCount s ≡ lengt
       accepted s (record {
         header = header;
         heads = λ c low high. laid-heads s tss 0 0 laid (omega arith) c low (omega arith);
-        records = λ r low high. laid-records s tss 0 0 laid lots (omega arith) r low (omega arith);
+        records = λ r low high filled. laid-records s tss 0 0 laid lots (omega arith) r low (omega arith);
         seen = countDown (recordCount s);
         walk = rw (m, e) (laid-walk s tss 0 0 laid (omega arith));
-        every = upto-member (recordCount s);
+        every = λ r low high filled. upto-member (recordCount s) r low high;
       })
 
   -- and has these conditions.

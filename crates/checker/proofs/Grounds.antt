@@ -4,11 +4,12 @@ use Prim.Native.Nat.{ℕ, suc, _-_, _≤_}
 use mathlib.Core.Bool.{Bool, true, false, cond, not, _||_}
 use mathlib.Core.List.{List}
 use mathlib.Core.Logic.{_≢_}
-use mathlib.Core.Path.{_≡_, refl, sym, ap, _∙_}
+use mathlib.Core.Path.{_≡_, refl, ap, _∙_}
 use native.Mathlib.Omega.{arith}
 use borrow.Author.Tests.{eqb-false}
 use lib.Dec.{eqb}
-use Rattle.sheet.specs.Format.{mostLots, sameSign, lotCount, conditionCount, recordCount, headAt}
+use Rattle.sheet.specs.Format.{mostLots, sameSign, lotCount, conditionCount, headAt}
+use Rattle.sheet.specs.Inner.{OnChain}
 use Rattle.sheet.specs.Checks.{Accepted}
 use Rattle.sheet.specs.Conditions.{Term, same, apart, termOf, InLots, TermIn, termsFrom, conditionAt}
 use Rattle.buffers.proofs.Lists.{all-map}
@@ -16,7 +17,8 @@ use Rattle.sheet.proofs.Accepted.{sound}
 use Rattle.sheet.proofs.Conditions.{conditions-at, terms-in}
 use Rattle.equality.specs.Meaning.{anyTerm}
 use Rattle.equality.specs.Node.{Decisions, classOf, classes, share, marked, markedApart, isTrue, isFalse, isOpen, value}
-use Rattle.equality.proofs.Some.{some-any, any-agree}
+use Rattle.equality.proofs.Some.{any-agree}
+use Rattle.equality.proofs.Withdrawn.{chain-some}
 use Rattle.refutation.specs.Refutation.{notFalse, groundFails, named}
 use Rattle.classes.proofs.Maps.{classes-within}
 use Rattle.checker.specs.Terms.{allowsClasses, allows}
@@ -60,13 +62,14 @@ module _ (ds : Decisions) (s : List ℕ) (ok : Accepted s) where
         go false false = refl
 
     -- The terms of a chain, from any record on.
-    pub terms-agree : (r : ℕ) → r ≤ recordCount s → anyTerm (allows (classes ds) marks) (termsFrom s r) ≡ anyTerm (stands ds) (termsFrom s r)
+    pub terms-agree : (r : ℕ) → OnChain s r → anyTerm (allows (classes ds) marks) (termsFrom s r) ≡ anyTerm (stands ds) (termsFrom s r)
     terms-agree r h = any-agree (allows (classes ds) marks) (stands ds) (termsFrom s r) (all-map term-agrees (termsFrom s r) (terms-in s ok r h))
 
-  -- Those of a whole chain decide a ground. Here alone the terms of a chain are taken for a condition.
-  pub ground-terms : (c : ℕ) → 1 ≤ c → c ≤ conditionCount s → anyTerm (stands ds) (termsFrom s (headAt s c)) ≡ groundFails ds (named s c)
+  -- Those of a whole chain decide a ground, and a withdrawn condition is none. Here alone the terms of a chain are taken for a condition.
+  pub ground-terms : (c : ℕ) → 1 ≤ c → c ≤ conditionCount s
+      → groundFails ds (named s c) ≡ (eqb (headAt s c) 0 || anyTerm (stands ds) (termsFrom s (headAt s c)))
   unfolding groundFails
   ground-terms c low high =
       let number : suc (c - 1) ≡ c = omega arith in
       let chain : named s c ≡ termsFrom s (headAt s c) = conditions-at s (c - 1) (omega arith) ∙ ap (conditionAt s) number in
-      rw chain (sym (some-any (stands ds) (termsFrom s (headAt s c))))
+      rw chain (chain-some (stands ds) s ok (headAt s c) (sound s ok .heads c low high))

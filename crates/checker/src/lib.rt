@@ -4,8 +4,8 @@ ghost use mathlib.Core.Bool.{not, _||_};
 ghost use Prim.Native.Nat.{ℕ, _+_, _*_, _/_, _%_, _≤_, _<_};
 ghost use lib.Dec.{ltb, eqb};
 ghost use lib.ListN.{length};
-ghost use Rattle.sheet.specs.Format.{mostLots, sameSign, lotCount, recordCount};
-ghost use Rattle.sheet.specs.Inner.{HasConditions};
+ghost use Rattle.sheet.specs.Format.{mostLots, sameSign, lotCount};
+ghost use Rattle.sheet.specs.Inner.{HasConditions, OnChain};
 ghost use Rattle.sheet.specs.Conditions.{termsFrom};
 ghost use Rattle.equality.specs.Meaning.{anyTerm};
 ghost use Rattle.equality.specs.Node.{marked};
@@ -90,7 +90,7 @@ fn allows(table: &[u8], sign: u8, x: u8, y: u8) -> bool
 
 // Whether every term of the chain from a record on is false.
 fn all_false(sheet: &[u8], m: u16, lots: &[u8], table: &[u8], head: Record) -> bool
-    requires { ⌜ HasConditions (now sheet) m × ClassMap (now lots) × Room (now table) 0 × (head .0 ≤ recordCount (now sheet)) ⌝ }
+    requires { ⌜ HasConditions (now sheet) m × ClassMap (now lots) × Room (now table) 0 × OnChain (now sheet) (head .0) ⌝ }
     ensures { λ r. ⌜ r ≡ not (anyTerm (allows (now (lots .entry)) (markAt (now (table .entry)) 0)) (termsFrom (now (sheet .entry)) (head .0))) ⌝ }
 {
     let mut at = head;
@@ -139,8 +139,8 @@ fn latest_between(path: &[u32], depth: usize, lots: &[u8], x: u8, y: u8) -> usiz
 // The first record of the chain whose term is not seen to be false, or 0: for a "same" term whose lots share no class the splits are walked over, as long as
 // those passed over so far and a whole walk more are no more than `marks::WALKED`. The split found is not counted: it is one step a term.
 fn past_false(sheet: &[u8], m: u16, path: &[u32], depth: usize, lots: &[u8], head: Record) -> Record
-    requires { ⌜ HasConditions (now sheet) m × PathWithin (now path) depth × ClassMap (now lots) × (head .0 ≤ recordCount (now sheet)) ⌝ }
-    ensures within { λ r. ⌜ r .0 ≤ recordCount (now (sheet .entry)) ⌝ }
+    requires { ⌜ HasConditions (now sheet) m × PathWithin (now path) depth × ClassMap (now lots) × OnChain (now sheet) (head .0) ⌝ }
+    ensures on { λ r. ⌜ OnChain (now (sheet .entry)) (r .0) ⌝ }
     ensures rest { λ r. ⌜ anyTerm (allows (now (lots .entry)) (marked (now (lots .entry)) (decisionsOf (pathOf (now (path .entry)) depth)))) (termsFrom (now (sheet .entry)) (head .0))
         ≡ anyTerm (allows (now (lots .entry)) (marked (now (lots .entry)) (decisionsOf (pathOf (now (path .entry)) depth)))) (termsFrom (now (sheet .entry)) (r .0)) ⌝ }
 {
@@ -167,8 +167,9 @@ fn past_false(sheet: &[u8], m: u16, path: &[u32], depth: usize, lots: &[u8], hea
     at
 }
 
-// Whether every term of a condition is false under the path. The first terms are told by a walk over the splits, and where many are walked the pairs that the
-// path sets apart are marked in the table for the others: it costs the condition's terms and the path's splits, not their product.
+// Whether every term of a condition is false under the path; a withdrawn condition has no term, and is no ground. The first terms are told by a walk over the
+// splits, and where many are walked the pairs that the path sets apart are marked in the table for the others: it costs the condition's terms and the path's
+// splits, not their product.
 fn ground_passes(
     sheet: &[u8],
     m: u16,
@@ -184,6 +185,9 @@ fn ground_passes(
 {
     let lots = levels::top(maps, levels, depth);
     let head = sheet::format::head_at(sheet, c);
+    if head.0 == 0 {
+        return false;
+    }
     let at = past_false(sheet, m, path, depth, lots, head);
     if at.0 == 0 {
         return true;
@@ -390,7 +394,7 @@ pub fn check(sheet: &[u8], list: &[u8]) -> CheckAnswer
         Reading::Accepted {
             lots,
             conditions,
-            terms,
+            records,
         } => {
             if ill_sized(list) {
                 return CheckAnswer::Refused {
@@ -401,7 +405,7 @@ pub fn check(sheet: &[u8], list: &[u8]) -> CheckAnswer
             let counts = Header {
                 lots,
                 conditions,
-                records: terms,
+                records,
             };
             let verdict = check_list(sheet, counts, list);
             match verdict {

@@ -1,5 +1,6 @@
-// Damaged refutations: each byte of a list, and each byte of its sheet, changed in three ways. A list that passes for a sheet that the second solver can
-// meet is wrong, and a sheet that is refused otherwise than the second statement of the table refuses it is a difference.
+// Damaged refutations: each byte of a list, and each byte of its sheet, changed in three ways, and each condition withdrawn. A list that passes for a sheet
+// that the second solver can meet is wrong, and a sheet that is refused otherwise than the second statement of the table refuses it is a difference.
+use crate::blanks;
 use crate::partitions;
 use crate::raw;
 use crate::services;
@@ -83,4 +84,50 @@ pub fn copied(sheet: &[u8], list: &[u8], damage: Damage) -> Damage {
     }
     let n = bytes::copy(sheet, &mut copy);
     sheets(&mut copy[..n], list, damage)
+}
+
+// The head of the condition that has c before it is zero while its records are left, and is then put back.
+fn head_zero(sheet: &mut [u8], list: &[u8], c: u16, damage: Damage) -> Damage {
+    let head = raw::number_at(sheet, blanks::head_place(c));
+    raw::put_number(sheet, blanks::head_place(c), 0);
+    let after = examined(sheet, list, damage);
+    raw::put_number(sheet, blanks::head_place(c), head);
+    after
+}
+
+// The condition is withdrawn, and then its head put back, so that its chain reaches a vacant record.
+fn withdrawn(sheet: &mut [u8], list: &[u8], c: u16, damage: Damage) -> Damage {
+    let m = raw::number_at(sheet, 2);
+    let head = raw::number_at(sheet, blanks::head_place(c));
+    blanks::withdraw(sheet, m, c);
+    let after = examined(sheet, list, damage);
+    raw::put_number(sheet, blanks::head_place(c), head);
+    examined(sheet, list, after)
+}
+
+// The condition in three ways one after the other: its head zero, withdrawn, its records vacant and its head left.
+fn in_three_ways(sheet: &mut [u8], list: &[u8], c: u16, damage: Damage) -> Damage {
+    let after = head_zero(sheet, list, c, damage);
+    withdrawn(sheet, list, c, after)
+}
+
+// The same in a copy.
+fn condition(sheet: &[u8], list: &[u8], c: u16, damage: Damage) -> Damage {
+    let mut copy = [0u8; 2048];
+    if 2048 < sheet.len() {
+        return damage;
+    }
+    let n = bytes::copy(sheet, &mut copy);
+    in_three_ways(&mut copy[..n], list, c, damage)
+}
+
+// Every condition of the sheet.
+pub fn conditions(sheet: &[u8], list: &[u8], damage: Damage) -> Damage {
+    let mut now = damage;
+    let mut c = raw::number_at(sheet, 2);
+    while 0 < c {
+        c -= 1;
+        now = condition(sheet, list, c, now);
+    }
+    now
 }

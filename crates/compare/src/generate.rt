@@ -1,5 +1,6 @@
-// Sheets from a fixed generator of numbers, each with 1 to 6 lots and 1 to 8 conditions of 1 to 4 terms. The records of a condition follow each other, in
-// the order of the conditions.
+// Sheets from a fixed generator of numbers, each with 1 to 6 lots and 1 to 8 conditions of 1 to 4 terms, one condition of six withdrawn. The records of a
+// condition follow each other, in the order of the conditions.
+use crate::blanks;
 use crate::raw;
 
 // The generator's state, and the records made so far.
@@ -81,18 +82,31 @@ fn add_terms(sheet: &mut [u8], n: u16, m: u16, count: u16, first: Made) -> Made 
     made
 }
 
-// A condition more: its head, and its terms.
+// The condition is withdrawn, if the state says so.
+fn draw(sheet: &mut [u8], m: u16, c: u16, state: u64) {
+    if below(state, 6) == 0 {
+        blanks::withdraw(sheet, m, c);
+    }
+}
+
+// A condition more: its head, and its terms; it may be withdrawn at once.
 fn add_condition(sheet: &mut [u8], n: u16, m: u16, c: u16, made: Made) -> Made {
     if 1023 < made.terms {
         return made;
     }
-    raw::put_number(sheet, 6 + 2 * (c as usize), made.terms + 1);
+    raw::put_number(sheet, blanks::head_place(c), made.terms + 1);
     let chosen = following(made.state);
     let first = Made {
         state: chosen,
         terms: made.terms,
     };
-    add_terms(sheet, n, m, from_one(chosen, 4), first)
+    let added = add_terms(sheet, n, m, from_one(chosen, 4), first);
+    let drawn = following(added.state);
+    draw(sheet, m, c, drawn);
+    Made {
+        state: drawn,
+        terms: added.terms,
+    }
 }
 
 // All m conditions of n lots, one after the other.
@@ -117,6 +131,39 @@ pub fn sheet_from(sheet: &mut [u8], state: u64) -> u64 {
     raw::put_number(sheet, 2, m);
     raw::put_number(sheet, 4, made.terms);
     made.state
+}
+
+// Record r is made vacant, where that is to be so.
+fn blank_where(so: bool, sheet: &mut [u8], m: u16, r: u16) {
+    if so {
+        blanks::blank(sheet, m, r);
+    }
+}
+
+// The next of record r is set, where that is to be so.
+fn link_where(so: bool, sheet: &mut [u8], m: u16, r: u16, next: u16) {
+    if so {
+        raw::put_number(sheet, raw::term_field(m, r, 6), next);
+    }
+}
+
+// A record of the sheet made vacant, or a next set to any record, or both; the state after it. Most such sheets are refused, by check 5, 6, 7 or 17.
+pub fn relinked(sheet: &mut [u8], state: u64) -> u64 {
+    let m = raw::number_at(sheet, 2);
+    let k = raw::number_at(sheet, 4);
+    let way = following(state);
+    let blanked = following(way);
+    let from = following(blanked);
+    let to = following(from);
+    blank_where(below(way, 3) != 0, sheet, m, from_one(blanked, k));
+    link_where(
+        below(way, 3) != 1,
+        sheet,
+        m,
+        from_one(from, k),
+        from_one(to, k),
+    );
+    to
 }
 
 // The length that a sheet's first bytes give it.

@@ -9,29 +9,48 @@ use crate::services::Answer;
 use crate::tally::Damage;
 use libc::STDOUT_FILENO;
 
-// How many sheets are generated, and the generator's first state.
+// How many sheets are generated for a group, and the generator's first state.
 const GENERATED: u32 = 600;
 
 const FIRST_STATE: u64 = 1;
 
-// The group of generated sheets: its line, and the counts after it.
-pub fn generated_group() -> Counts {
-    let mut sheet = [0u8; 1024];
+// The groups of generated sheets, as they are made and relinked: their lines, and the counts after them.
+pub fn generated_groups() -> Counts {
     io::write_all(STDOUT_FILENO, b"generated");
-    let counts = generated(&mut sheet);
+    let made = generated_group(
+        examine::new_group(Damage::new(), Damage::new(), Damage::new()),
+        false,
+    );
+    io::write_all(STDOUT_FILENO, b"relinked");
+    generated_group(made, true)
+}
+
+fn generated_group(first: Counts, relinked: bool) -> Counts {
+    let mut sheet = [0u8; 1024];
+    let counts = generated(&mut sheet, first, relinked);
     end_group(counts)
 }
 
-fn generated(sheet: &mut [u8]) -> Counts {
-    let mut counts = examine::new_group(Damage::new(), Damage::new());
+fn generated(sheet: &mut [u8], first: Counts, relinked: bool) -> Counts {
+    let mut counts = first;
     let mut state = FIRST_STATE;
     let mut left = GENERATED;
     while 0 < left {
-        state = generate::sheet_from(sheet, state);
+        state = sheet_after(sheet, state, relinked);
         counts = examine_start(sheet, counts);
         left -= 1;
     }
     counts
+}
+
+// The next sheet, relinked or not; the state after it.
+fn sheet_after(sheet: &mut [u8], state: u64, relinked: bool) -> u64 {
+    let made = generate::sheet_from(sheet, state);
+    if relinked {
+        generate::relinked(sheet, made)
+    } else {
+        made
+    }
 }
 
 // A generated sheet at the start of its buffer.
@@ -107,5 +126,5 @@ fn examine_digits(digits: &[u8], wanted: Answer, counts: Counts) -> Counts {
 fn end_group(counts: Counts) -> Counts {
     let tally = counts.tally;
     say::tally(tally);
-    examine::new_group(counts.lists, counts.sheets)
+    examine::new_group(counts.lists, counts.sheets, counts.withdrawn)
 }

@@ -26,21 +26,23 @@ fn with_name(names: &mut [u8], count: usize, lot: u16) -> usize {
     count + 1
 }
 
+// The names and those of a record more, where it is not vacant: the sign of an accepted sheet's record tells.
+fn with_names_of(sheet: &[u8], m: u16, r: u16, names: &mut [u8], count: usize) -> usize {
+    if raw::byte_at(sheet, raw::term_field(m, r, 0)) == 0 {
+        return count;
+    }
+    let a = raw::number_at(sheet, raw::term_field(m, r, 2));
+    let b = raw::number_at(sheet, raw::term_field(m, r, 4));
+    let with_a = with_name(names, count, a);
+    with_name(names, with_a, b)
+}
+
 // The lots that the records name; how many they are.
 fn name_lots(sheet: &[u8], m: u16, k: u16, names: &mut [u8]) -> usize {
     let mut count: usize = 0;
     let mut r = k;
     while 0 < r {
-        count = with_name(
-            names,
-            count,
-            raw::number_at(sheet, raw::term_field(m, r, 2)),
-        );
-        count = with_name(
-            names,
-            count,
-            raw::number_at(sheet, raw::term_field(m, r, 4)),
-        );
+        count = with_names_of(sheet, m, r, names, count);
         r -= 1;
     }
     count
@@ -63,7 +65,7 @@ fn term_true(sheet: &[u8], m: u16, r: u16, names: &[u8], groups: &[u8]) -> bool 
 }
 
 // Whether some term of the chain is true. A chain has at most 1,024 terms.
-fn condition_met(sheet: &[u8], m: u16, head: u16, names: &[u8], groups: &[u8]) -> bool {
+fn some_term_true(sheet: &[u8], m: u16, head: u16, names: &[u8], groups: &[u8]) -> bool {
     let mut r = head;
     let mut left: u16 = 1024;
     while 0 < left {
@@ -77,6 +79,14 @@ fn condition_met(sheet: &[u8], m: u16, head: u16, names: &[u8], groups: &[u8]) -
         left -= 1;
     }
     false
+}
+
+// Whether a condition is met: every way meets one that is withdrawn.
+fn condition_met(sheet: &[u8], m: u16, head: u16, names: &[u8], groups: &[u8]) -> bool {
+    if head == 0 {
+        return true;
+    }
+    some_term_true(sheet, m, head, names, groups)
 }
 
 // Whether every condition is met.

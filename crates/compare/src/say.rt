@@ -1,5 +1,6 @@
 // The lines of the output.
 ghost use Prim.Native.Nat.{_≤_};
+use crate::services::Answer;
 use crate::splits;
 use crate::tally::Damage;
 use crate::tally::Tally;
@@ -32,12 +33,8 @@ pub fn damage(label: &[u8], damage: Damage) {
     io::write_all(STDOUT_FILENO, b"\n");
 }
 
-// What the checker says of a list with so many splits on a path.
-pub fn splits(s: u16)
-    requires { ⌜ s ≤ 1025 ⌝ }
-{
-    let answer = splits::splits_on_a_path(s);
-    field(b"splits on a path ", s as u32);
+// What the checker says of a list.
+fn checked(answer: Answer) {
     if answer.kind == 1 {
         io::write_all(STDOUT_FILENO, b": passed");
     } else {
@@ -45,4 +42,20 @@ pub fn splits(s: u16)
         field(b" ", answer.second);
     }
     io::write_all(STDOUT_FILENO, b"\n");
+}
+
+// A ground that names a withdrawn condition.
+pub fn ground_of_withdrawn() {
+    let answer = splits::ground_of_withdrawn();
+    io::write_all(STDOUT_FILENO, b"ground of a withdrawn condition");
+    checked(answer);
+}
+
+// A list with so many splits on a path.
+pub fn splits(s: u16)
+    requires { ⌜ s ≤ 1025 ⌝ }
+{
+    let answer = splits::splits_on_a_path(s);
+    field(b"splits on a path ", s as u32);
+    checked(answer);
 }

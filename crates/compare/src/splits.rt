@@ -1,4 +1,4 @@
-// Lists with many splits on a path. Their sheet has one lot and one condition with no term, so that every ground passes.
+// Lists with many splits on a path, and one ground alone. The sheet of the former has one lot and the condition "apart 1 1", so that every ground passes.
 ghost use Prim.Native.Nat.{_≤_};
 use crate::raw;
 use crate::services;
@@ -46,5 +46,13 @@ pub fn splits_on_a_path(s: u16) -> Answer
     put_splits(&mut list, s);
     put_grounds(&mut list, s);
     let length = 8 * (2 * (s as usize) + 1);
-    services::checked(&[1u8, 0, 1, 0, 0, 0, 0, 0], &list[..length])
+    services::checked(
+        &[1u8, 0, 1, 0, 1, 0, 1, 0, 2, 0, 1, 0, 1, 0, 0, 0],
+        &list[..length],
+    )
+}
+
+// What the checker says of a ground that names the one condition of its sheet, which is withdrawn.
+pub fn ground_of_withdrawn() -> Answer {
+    services::checked(&[1u8, 0, 1, 0, 0, 0, 0, 0], &[2u8, 0, 1, 0, 0, 0, 0, 0])
 }

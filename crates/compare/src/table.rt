@@ -1,5 +1,5 @@
-// Checks 1 to 8, stated a second time: from document 01's table, over the bytes as they stand. It has nothing in common with the reader.
-ghost use Prim.Native.Nat.{_≤_};
+// Checks 1 to 8 and 17, stated a second time: from document 01's table and document 02's second request, over the bytes as they stand. It has nothing in
+// common with the reader.
 use crate::raw;
 use crate::services::Answer;
 
@@ -41,21 +41,30 @@ fn in_range(sheet: &[u8], n: u16, m: u16, k: u16, r: u16) -> bool {
     known & (spare == 0) & named & (next <= k)
 }
 
-// Check 5: the first record that is not in range, or 0.
+// Whether a record is vacant: its eight bytes are zero.
+fn vacant(sheet: &[u8], m: u16, r: u16) -> bool {
+    let sign_and_spare = raw::number_at(sheet, raw::term_field(m, r, 0));
+    let a = raw::number_at(sheet, raw::term_field(m, r, 2));
+    let b = raw::number_at(sheet, raw::term_field(m, r, 4));
+    let next = raw::number_at(sheet, raw::term_field(m, r, 6));
+    (sign_and_spare == 0) & (a == 0) & (b == 0) & (next == 0)
+}
+
+// Check 5: the first record that is neither in range nor vacant, or 0.
 fn out_of_range(sheet: &[u8], n: u16, m: u16, k: u16) -> u16 {
     let mut r: u16 = 0;
     while r < k {
         r += 1;
-        if !in_range(sheet, n, m, k, r) {
+        if !(in_range(sheet, n, m, k, r) | vacant(sheet, m, r)) {
             return r;
         }
     }
     0
 }
 
-// Check 6: the first record that is reached a second time, or 0, where the chains are walked one after the other. Byte r is set once record r is reached.
-// Each step goes to a head or marks a record, so 256 and 1,024 of them are enough, and one more to see that nothing is left.
-fn reached_again(sheet: &[u8], m: u16, reached: &mut [u8]) -> u16 {
+// Checks 17 and 6, where the chains are walked one after the other: the first record that is vacant, or that is reached a second time. Byte r is set once
+// record r is reached. Each step goes to a head or marks a record, so 256 and 1,024 of them are enough, and one more to see that nothing is left.
+fn walk(sheet: &[u8], m: u16, reached: &mut [u8]) -> Refusal {
     let mut c: u16 = 0;
     let mut r: u16 = 0;
     let mut left: u16 = 1281;
@@ -63,25 +72,38 @@ fn reached_again(sheet: &[u8], m: u16, reached: &mut [u8]) -> u16 {
         left -= 1;
         if r == 0 {
             if m <= c {
-                return 0;
+                return refused(0, 0);
             }
             r = raw::number_at(sheet, 6 + 2 * (c as usize));
             c += 1;
             continue;
         }
+        if vacant(sheet, m, r) {
+            return refused(17, r);
+        }
         if raw::byte_at(reached, r as usize) == 1 {
-            return r;
+            return refused(6, r);
         }
         raw::put(reached, r as usize, 1);
         r = raw::number_at(sheet, raw::term_field(m, r, 6));
     }
+    refused(0, 0)
+}
+
+// Check 7: the first record that is neither reached nor vacant, or 0.
+fn never_reached(sheet: &[u8], m: u16, k: u16, reached: &[u8]) -> u16 {
+    let mut r: u16 = 0;
+    while r < k {
+        r += 1;
+        if !((raw::byte_at(reached, r as usize) == 1) | vacant(sheet, m, r)) {
+            return r;
+        }
+    }
     0
 }
 
-// Checks 4 to 8, of a sheet whose header and length pass; the grouping has so much room.
-fn inside(sheet: &[u8], n: u16, m: u16, k: u16, room: u16) -> Refusal
-    requires { ⌜ k ≤ 1024 ⌝ }
-{
+// Checks 4 to 8 and 17, of a sheet whose header and length pass; the grouping has so much room.
+fn inside(sheet: &[u8], n: u16, m: u16, k: u16, room: u16) -> Refusal {
     let mut reached = [0u8; 1025];
     let above = head_above(sheet, m, k);
     if above != 0 {
@@ -91,14 +113,13 @@ fn inside(sheet: &[u8], n: u16, m: u16, k: u16, room: u16) -> Refusal
     if wrong != 0 {
         return refused(5, wrong);
     }
-    let again = reached_again(sheet, m, &mut reached);
-    if again != 0 {
-        return refused(6, again);
+    let walked = walk(sheet, m, &mut reached);
+    if walked.check != 0 {
+        return walked;
     }
-    let end = (k as usize) + 1;
-    let never = bytes::scan::find(&reached, 1, end, 0);
-    if never < end {
-        return refused(7, never as u16);
+    let never = never_reached(sheet, m, k, &reached);
+    if never != 0 {
+        return refused(7, never);
     }
     if room < n {
         return refused(8, n);
@@ -129,11 +150,12 @@ fn first_refusal(sheet: &[u8], room: u16) -> Refusal {
     inside(sheet, n, m, k, room)
 }
 
-// Whether an answer refuses as the table does, by number and place, where a grouping of so many bytes is lent; an answer that is none of checks 1 to 8 is
-// right where none of them refuses.
+// Whether an answer refuses as the table does, by number and place, where a grouping of so many bytes is lent; an answer that is none of checks 1 to 8 and 17
+// is right where none of them refuses.
 pub fn agrees(sheet: &[u8], room: u16, answer: Answer) -> bool {
     let r = first_refusal(sheet, room);
-    if (answer.kind == 3) & (answer.first < 9) {
+    let stated = (answer.first < 9) | (answer.first == 17);
+    if (answer.kind == 3) & stated {
         (answer.first == r.check) & (answer.second == r.place)
     } else {
         r.check == 0

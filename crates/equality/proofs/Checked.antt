@@ -1,4 +1,4 @@
--- The checks that a call with a grouping can fail before anything is tried: 1 to 7 on the sheet, then 8.
+-- The checks that a call with a grouping can fail before anything is tried: 1 to 7 and 17 on the sheet, then 8.
 use Prim.Native.Nat.{ℕ, _≤_, _<_}
 use mathlib.Core.List.{List}
 use mathlib.Core.Path.{_≡_}

@@ -7,6 +7,7 @@ pub mod Least
 pub mod Node
 pub mod Steps
 pub mod Rule
+pub mod Withdrawn
 pub mod Opens
 pub mod Visits
 pub mod Right

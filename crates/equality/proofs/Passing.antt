@@ -4,31 +4,31 @@ use Prim.Native.Nat.{ℕ, _≤_}
 use mathlib.Core.Bool.{Bool, true, false}
 use mathlib.Core.List.{List, [], _∷_, _++_, append-nil, append-assoc}
 use mathlib.Core.Path.{_≡_, refl, sym, ap, _∙_}
-use Rattle.sheet.specs.Format.{recordCount, nextAt}
+use Rattle.sheet.specs.Format.{nextAt}
 use Rattle.sheet.specs.Checks.{Accepted}
 use Rattle.sheet.specs.Conditions.{Term, termAt, termsFrom}
+use Rattle.sheet.specs.Inner.{OnChain}
 use Rattle.buffers.specs.Lists.{All}
 use Rattle.buffers.proofs.Lists.{all-both}
-use Rattle.sheet.proofs.Accepted.{sound}
-use Rattle.sheet.proofs.ChainEnds.{terms-end, terms-step}
+use Rattle.sheet.proofs.ChainEnds.{terms-end, terms-step, next-on}
 use Rattle.equality.specs.Meaning.{anyTerm}
 use Rattle.equality.proofs.Some.{any-here, any-false, any-past}
 
 -- Of the chain from `head` on, the test is false of the terms before record `at`.
 pub record Passing (q : Term → Bool) (s : List ℕ) (head at : ℕ) : Type 0 where
-  pub within : at ≤ recordCount s
+  pub on : OnChain s at
   pub passed : List Term
   pub falses : All (λ t. q t ≡ false) passed
   pub place : termsFrom s head ≡ passed ++ termsFrom s at
 
-pub passing-start : (q : Term → Bool) (s : List ℕ) (head : ℕ) → head ≤ recordCount s → Passing q s head head
-passing-start q s head h = record { within = h; passed = []; falses = tt; place = refl }
+pub passing-start : (q : Term → Bool) (s : List ℕ) (head : ℕ) → OnChain s head → Passing q s head head
+passing-start q s head h = record { on = h; passed = []; falses = tt; place = refl }
 
 -- What a loop passes from where another has left follows what that one has passed.
 pub passing-through : {q : Term → Bool} {s : List ℕ} {head between at : ℕ} → Passing q s head between → Passing q s between at → Passing q s head at
 passing-through {q} {s} {at = at} k l =
     record {
-      within = l .within;
+      on = l .on;
       passed = k .passed ++ l .passed;
       falses = all-both (λ t. q t ≡ false) (k .passed) (l .passed) (k .falses) (l .falses);
       place =
@@ -39,7 +39,7 @@ passing-through {q} {s} {at = at} k l =
 
 module _ (q : Term → Bool) (s : List ℕ) (ok : Accepted s) (head at : ℕ) (l : Passing q s head at) where
   stepped : 1 ≤ at → termsFrom s head ≡ l .passed ++ termAt s at ∷ termsFrom s (nextAt s at)
-  stepped h = l .place ∙ ap (λ (ts : List Term). l .passed ++ ts) (terms-step s ok at h (l .within))
+  stepped h = l .place ∙ ap (λ (ts : List Term). l .passed ++ ts) (terms-step s ok at h (l .on .within))
 
   -- One that is true is found;
   pub found : 1 ≤ at → q (termAt s at) ≡ true → anyTerm q (termsFrom s head) ≡ true
@@ -49,7 +49,7 @@ module _ (q : Term → Bool) (s : List ℕ) (ok : Accepted s) (head at : ℕ) (l
   pub passing-next : 1 ≤ at → q (termAt s at) ≡ false → Passing q s head (nextAt s at)
   passing-next h e =
       record {
-        within = sound s ok .records at h (l .within) .next;
+        on = next-on s ok at h (l .on);
         passed = l .passed ++ termAt s at ∷ [];
         falses = all-both (λ t. q t ≡ false) (l .passed) (termAt s at ∷ []) (l .falses) (e, tt);
         place = stepped h ∙ sym (append-assoc (l .passed) (termAt s at ∷ []) (termsFrom s (nextAt s at)));

@@ -1,4 +1,4 @@
--- Laws of "some term of a condition is such and such". All but one, `some-any`, hold whatever a condition with no term counts for.
+-- Laws of "some term of a condition is such and such". All but one, `some-no-term`, hold whatever a condition with no term counts for.
 use mathlib.Core.Bool.{Bool, true, false, _||_, or-true, false≢true}
 use mathlib.Core.List.{List, [], _∷_, _++_}
 use mathlib.Core.Logic.{⊎-elim}
@@ -32,11 +32,15 @@ any-past q (t ∷ before) after none = rw (none .0) (any-past q before after (no
 
 -- ---- a whole condition
 
--- Some term of a condition is such where some of its terms is. This law alone says what a condition with no term counts for.
-pub some-any : (q : Term → Bool) (ts : List Term) → someTerm q ts ≡ anyTerm q ts
+-- Some term of a condition that has terms is such where some of them is.
+pub some-any : (q : Term → Bool) (t : Term) (ts : List Term) → someTerm q (t ∷ ts) ≡ anyTerm q (t ∷ ts)
 unfolding anyTerm someTerm
-some-any q [] = refl
-some-any q (t ∷ ts) = refl
+some-any q t ts = refl
+
+-- A condition with no term counts for one that has such a term: this law alone says so.
+pub some-no-term : (q : Term → Bool) → someTerm q [] ≡ true
+unfolding someTerm
+some-no-term q = refl
 
 -- A condition some of whose terms is such and such has such a term, whatever a condition with no term counts for.
 pub some-found : (q : Term → Bool) (ts : List Term) → anyTerm q ts ≡ true → someTerm q ts ≡ true

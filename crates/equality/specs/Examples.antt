@@ -1,5 +1,5 @@
--- Document 01's sheets A, C and D as lists of conditions, and the trees that the search visits, by computation; and a pair that stands in the
--- other order.
+-- Document 01's sheets A, C and D as lists of conditions, and the trees that the search visits, by computation; a pair that stands in the other order;
+-- and withdrawn conditions.
 use mathlib.Core.List.{List, [], _∷_, map}
 use mathlib.Core.Path.{_≡_, refl}
 use Rattle.sheet.specs.Conditions.{Term, same, apart, countUp}
@@ -31,13 +31,22 @@ conditionsD =
 abbrev pub conditionsReversed : List (List Term)
 conditionsReversed = (same 2 1 ∷ []) ∷ (apart 1 2 ∷ []) ∷ []
 
+-- C with condition 1 withdrawn, and with both.
+abbrev pub conditionsWithdrawn : List (List Term)
+conditionsWithdrawn = [] ∷ (apart 1 2 ∷ []) ∷ []
+
+abbrev pub conditionsAllWithdrawn : List (List Term)
+conditionsAllWithdrawn = [] ∷ [] ∷ []
+
 -- Each with the tree that is visited.
 pub trees :
-    map searchTree (conditionsA ∷ conditionsC ∷ conditionsD ∷ conditionsReversed ∷ [])
+    map searchTree (conditionsA ∷ conditionsC ∷ conditionsD ∷ conditionsReversed ∷ conditionsWithdrawn ∷ conditionsAllWithdrawn ∷ [])
     ≡ twoBranches 1 2 (twoBranches 2 3 (groundLeaf 3) (groundLeaf 2)) (groundLeaf 1)
     ∷ twoBranches 1 2 (groundLeaf 2) (oneBranch 1 3 (metLeaf (same 1 3 ∷ apart 1 2 ∷ [])))
     ∷ twoBranches 1 2 (twoBranches 2 3 (groundLeaf 1) (groundLeaf 4)) (twoBranches 2 3 (groundLeaf 3) (groundLeaf 2))
     ∷ twoBranches 2 1 (groundLeaf 2) (groundLeaf 1)
+    ∷ metLeaf []
+    ∷ metLeaf []
     ∷ []
 unfolding merged classes marked value taken groundOrSplit node isMet afterSame visitNode visit sameTerms allSameTerms searchTree anyTerm someTerm countUp
 trees = refl

@@ -1,4 +1,4 @@
--- What it is that an assignment meets a sheet (document 01, "Meaning"; source document 001, sections 2.2 and 3.2).
+-- What it is that an assignment meets a sheet (document 01, "Meaning"; document 02, job 2; source document 001, sections 2.2 and 3.2).
 use Prim.Native.Nat.{ℕ}
 use mathlib.Core.Bool.{Bool, true, false, not, _&&_, _||_}
 use mathlib.Core.List.{List, [], _∷_}
@@ -25,10 +25,10 @@ unfoldable pub anyTerm : (Term → Bool) → List Term → Bool
 anyTerm p [] = false
 anyTerm p (t ∷ ts) = p t || anyTerm p ts
 
--- "Zero: the condition has no term, and no numbering meets it.": what a condition with no term counts for, wherever a rule asks whether some
--- term of a condition is such and such.
+-- "A zero head therefore means struck: every numbering meets it, the search passes it over, and a ground naming it is refused by 12" (document 02): what a
+-- condition with no term, a withdrawn one, counts for, wherever a rule asks whether some term of a condition is such and such.
 abbrev pub noTerm : Bool
-noTerm = false
+noTerm = true
 
 -- Some term of a condition is such and such.
 unfoldable pub SomeTerm : (Term → Type 0) → List Term → Type 0
@@ -39,7 +39,7 @@ unfoldable pub someTerm : (Term → Bool) → List Term → Bool
 someTerm p [] = noTerm
 someTerm p (t ∷ ts) = p t || anyTerm p ts
 
--- "A condition is met when some term is true"
+-- "A condition is met when some term is true", or when it is withdrawn
 abbrev pub MeetsCondition : {A : Type 0} → (ℕ → A) → List Term → Type 0
 MeetsCondition f ts = SomeTerm (Holds f) ts
 

@@ -87,7 +87,7 @@ pub data Taken : Type 0 where
   noCondition : Taken
   takes : ℕ → List Term → Taken
 
--- A condition of these terms is passed over: it has a true term or an open "apart" term.
+-- A condition of these terms is passed over: it has a true term or an open "apart" term, or it is withdrawn, and "the search passes it over" (document 02).
 abbrev pub passedOver : Decisions → List Term → Bool
 passedOver ds ts = someTerm (λ t. trueOrOpenApart t (value ds t)) ts
 

@@ -49,7 +49,7 @@ Evaluated (answered (suc c) second third) s grouping =
 
 -- ---- what inner functions ask
 
--- The sheet is accepted, with m conditions, and the grouping has a number for each lot: checks 1 to 8 have passed.
+-- The sheet is accepted, with m conditions, and the grouping has a number for each lot: checks 1 to 8 and 17 have passed.
 pub record Evaluable (s grouping : List ℕ) (m : ℕ) : Type 0 where
   pub sheet : HasConditions s m
   pub room : lotCount s ≤ length grouping

@@ -2,8 +2,8 @@
 ghost use mathlib.Core.Path.{_≡_};
 ghost use Prim.Native.Nat.{_≤_};
 ghost use lib.ListN.{length};
-ghost use Rattle.sheet.specs.Format.{recordCount};
 ghost use Rattle.sheet.specs.Conditions.{termOf, termsFrom, conditions};
+ghost use Rattle.sheet.specs.Inner.{OnChain};
 ghost use Rattle.equality.specs.Meaning.{holds, meetsCondition};
 ghost use Rattle.equality.specs.Evaluator.{numberIn, lowestUnmet, evaluateAnswer};
 ghost use Rattle.evaluator.specs.Answers.{evaluationAnswer, unmetOr, evaluateCase, Evaluated, Evaluable};
@@ -39,9 +39,10 @@ fn is_true(grouping: &[u8], t: Term) -> bool
     if t.sign == SAME { same } else { !same }
 }
 
-// Whether the condition whose chain begins at a record is met. The loop leaves at the first true term; every term that it has passed is false.
+// Whether the condition whose chain begins at a record is met. The loop leaves at the first true term; every term that it has passed is false. Where none is
+// true, a condition with no term is met still: it is withdrawn.
 fn is_met(sheet: &[u8], m: u16, grouping: &[u8], head: Record) -> bool
-    requires { ⌜ Evaluable (now sheet) (now grouping) m × (head .0 ≤ recordCount (now sheet)) ⌝ }
+    requires { ⌜ Evaluable (now sheet) (now grouping) m × OnChain (now sheet) (head .0) ⌝ }
     ensures { λ r. ⌜ r ≡ meetsCondition (numberIn (now (grouping .entry))) (termsFrom (now (sheet .entry)) (head .0)) ⌝ }
 {
     let mut at = head;
@@ -52,7 +53,7 @@ fn is_met(sheet: &[u8], m: u16, grouping: &[u8], head: Record) -> bool
         }
         at = t.next;
     }
-    false
+    head.0 == 0
 }
 
 // The lowest condition that is not met.
@@ -83,7 +84,7 @@ pub fn evaluate(sheet: &[u8], grouping: &[u8]) -> Evaluation
         Reading::Accepted {
             lots,
             conditions,
-            terms: _,
+            records: _,
         } => {
             if grouping.len() < (lots as usize) {
                 return Evaluation::Refused {

@@ -1,5 +1,6 @@
--- The starred sheets of document 01, "Sheets to try", each with the buffers lent and what they hold afterwards. Every buffer is
--- filled with 170 and longer than needed, but for the store of the row that is to be full, so that what must stay untouched is seen to.
+-- The starred sheets of document 01, "Sheets to try", and some with withdrawn conditions and vacant records (document 02, job 2), each with the buffers lent
+-- and what they hold afterwards. Every buffer is filled with 170 and longer than needed, but for the store of the row that is to be full, so that what must
+-- stay untouched is seen to.
 use Prim.Native.Nat.{ℕ}
 use mathlib.Core.List.{List, [], _∷_}
 use lib.ListN.{replicate}
@@ -68,8 +69,8 @@ unfoldable pub sheetEmpty : List ℕ
 sheetEmpty =
     0 ∷ 0 ∷ 0 ∷ 0 ∷ 0 ∷ 0 ∷ []
 
-unfoldable pub sheetNoTerm : List ℕ
-sheetNoTerm =
+unfoldable pub sheetOneHead : List ℕ
+sheetOneHead =
     0 ∷ 0 ∷ 1 ∷ 0 ∷ 0 ∷ 0 ∷
     0 ∷ 0 ∷ []
 
@@ -84,6 +85,61 @@ sheetApartSame =
     1 ∷ 0 ∷ 1 ∷ 0 ∷ 1 ∷ 0 ∷
     1 ∷ 0 ∷
     2 ∷ 0 ∷ 1 ∷ 0 ∷ 1 ∷ 0 ∷ 0 ∷ 0 ∷ []
+
+-- A with condition 1 withdrawn, and its record vacant.
+unfoldable pub sheetWithdrawn : List ℕ
+sheetWithdrawn =
+    3 ∷ 0 ∷ 3 ∷ 0 ∷ 3 ∷ 0 ∷
+    0 ∷ 0 ∷ 2 ∷ 0 ∷ 3 ∷ 0 ∷
+    0 ∷ 0 ∷ 0 ∷ 0 ∷ 0 ∷ 0 ∷ 0 ∷ 0 ∷
+    1 ∷ 0 ∷ 2 ∷ 0 ∷ 3 ∷ 0 ∷ 0 ∷ 0 ∷
+    2 ∷ 0 ∷ 1 ∷ 0 ∷ 3 ∷ 0 ∷ 0 ∷ 0 ∷ []
+
+-- A with withdrawn conditions 2 and 4 among its own, and a vacant record.
+unfoldable pub sheetStillCannot : List ℕ
+sheetStillCannot =
+    3 ∷ 0 ∷ 5 ∷ 0 ∷ 4 ∷ 0 ∷
+    1 ∷ 0 ∷ 0 ∷ 0 ∷ 2 ∷ 0 ∷ 0 ∷ 0 ∷ 4 ∷ 0 ∷
+    1 ∷ 0 ∷ 1 ∷ 0 ∷ 2 ∷ 0 ∷ 0 ∷ 0 ∷
+    1 ∷ 0 ∷ 2 ∷ 0 ∷ 3 ∷ 0 ∷ 0 ∷ 0 ∷
+    0 ∷ 0 ∷ 0 ∷ 0 ∷ 0 ∷ 0 ∷ 0 ∷ 0 ∷
+    2 ∷ 0 ∷ 1 ∷ 0 ∷ 3 ∷ 0 ∷ 0 ∷ 0 ∷ []
+
+-- Sheets whose conditions 2 and 3 reach records that they must not: a vacant one, then one a second time; and the other way round.
+unfoldable pub sheetVacantFirst : List ℕ
+sheetVacantFirst =
+    3 ∷ 0 ∷ 3 ∷ 0 ∷ 3 ∷ 0 ∷
+    1 ∷ 0 ∷ 2 ∷ 0 ∷ 1 ∷ 0 ∷
+    1 ∷ 0 ∷ 1 ∷ 0 ∷ 2 ∷ 0 ∷ 0 ∷ 0 ∷
+    1 ∷ 0 ∷ 2 ∷ 0 ∷ 3 ∷ 0 ∷ 3 ∷ 0 ∷
+    0 ∷ 0 ∷ 0 ∷ 0 ∷ 0 ∷ 0 ∷ 0 ∷ 0 ∷ []
+
+unfoldable pub sheetTwiceFirst : List ℕ
+sheetTwiceFirst =
+    3 ∷ 0 ∷ 3 ∷ 0 ∷ 3 ∷ 0 ∷
+    1 ∷ 0 ∷ 1 ∷ 0 ∷ 2 ∷ 0 ∷
+    1 ∷ 0 ∷ 1 ∷ 0 ∷ 2 ∷ 0 ∷ 0 ∷ 0 ∷
+    1 ∷ 0 ∷ 2 ∷ 0 ∷ 3 ∷ 0 ∷ 3 ∷ 0 ∷
+    0 ∷ 0 ∷ 0 ∷ 0 ∷ 0 ∷ 0 ∷ 0 ∷ 0 ∷ []
+
+-- A withdrawn condition whose record was not blanked; and one whose record was, but for a byte.
+unfoldable pub sheetNotBlanked : List ℕ
+sheetNotBlanked =
+    3 ∷ 0 ∷ 1 ∷ 0 ∷ 1 ∷ 0 ∷
+    0 ∷ 0 ∷
+    1 ∷ 0 ∷ 1 ∷ 0 ∷ 2 ∷ 0 ∷ 0 ∷ 0 ∷ []
+
+unfoldable pub sheetNearlyVacant : List ℕ
+sheetNearlyVacant =
+    3 ∷ 0 ∷ 1 ∷ 0 ∷ 1 ∷ 0 ∷
+    0 ∷ 0 ∷
+    0 ∷ 0 ∷ 0 ∷ 0 ∷ 0 ∷ 0 ∷ 0 ∷ 1 ∷ []
+
+-- No conditions, and a vacant record.
+unfoldable pub sheetVacantOnly : List ℕ
+sheetVacantOnly =
+    1 ∷ 0 ∷ 0 ∷ 0 ∷ 1 ∷ 0 ∷
+    0 ∷ 0 ∷ 0 ∷ 0 ∷ 0 ∷ 0 ∷ 0 ∷ 0 ∷ []
 
 -- ---- the rows
 
@@ -191,17 +247,17 @@ rowEmpty =
           170 ∷ 170 ∷ 170 ∷ [];
     }
 
--- One condition, head zero: cannot, 1.
-unfoldable pub rowNoTerm : Row
-rowNoTerm =
+-- One condition, head zero. "The starred sheet with one zero head becomes met, 1" (document 02).
+unfoldable pub rowOneHead : Row
+rowOneHead =
     record {
-      sheet = sheetNoTerm;
+      sheet = sheetOneHead;
       grouping = replicate 2 170;
       store = replicate 19 170;
-      answer = cannotWith 1;
+      answer = metWith 1;
       groupingAfter = 170 ∷ 170 ∷ [];
       storeAfter =
-          2 ∷ 0 ∷ 1 ∷ 0 ∷ 0 ∷ 0 ∷ 0 ∷ 0 ∷
+          3 ∷ 0 ∷ 0 ∷ 0 ∷ 0 ∷ 0 ∷ 0 ∷ 0 ∷
           170 ∷ 170 ∷ 170 ∷ 170 ∷ 170 ∷ 170 ∷ 170 ∷ 170 ∷
           170 ∷ 170 ∷ 170 ∷ [];
     }
@@ -236,9 +292,58 @@ rowApartSame =
           170 ∷ 170 ∷ 170 ∷ [];
     }
 
--- All rows.
+-- A with condition 1 withdrawn: met, 2 records, grouping 1 2 2.
+unfoldable pub rowWithdrawn : Row
+rowWithdrawn =
+    record {
+      sheet = sheetWithdrawn;
+      grouping = replicate 5 170;
+      store = replicate 19 170;
+      answer = metWith 2;
+      groupingAfter = 1 ∷ 2 ∷ 2 ∷ 170 ∷ 170 ∷ [];
+      storeAfter =
+          1 ∷ 0 ∷ 2 ∷ 0 ∷ 3 ∷ 0 ∷ 0 ∷ 0 ∷
+          3 ∷ 0 ∷ 0 ∷ 0 ∷ 0 ∷ 0 ∷ 0 ∷ 0 ∷
+          170 ∷ 170 ∷ 170 ∷ [];
+    }
+
+-- A among withdrawn conditions: cannot, 5, and the grounds name the conditions by the numbers that they have kept.
+unfoldable pub rowStillCannot : Row
+rowStillCannot =
+    record {
+      sheet = sheetStillCannot;
+      grouping = replicate 5 170;
+      store = replicate 43 170;
+      answer = cannotWith 5;
+      groupingAfter = 170 ∷ 170 ∷ 170 ∷ 170 ∷ 170 ∷ [];
+      storeAfter =
+          1 ∷ 0 ∷ 1 ∷ 0 ∷ 2 ∷ 0 ∷ 5 ∷ 0 ∷
+          1 ∷ 0 ∷ 2 ∷ 0 ∷ 3 ∷ 0 ∷ 4 ∷ 0 ∷
+          2 ∷ 0 ∷ 5 ∷ 0 ∷ 0 ∷ 0 ∷ 0 ∷ 0 ∷
+          2 ∷ 0 ∷ 3 ∷ 0 ∷ 0 ∷ 0 ∷ 0 ∷ 0 ∷
+          2 ∷ 0 ∷ 1 ∷ 0 ∷ 0 ∷ 0 ∷ 0 ∷ 0 ∷
+          170 ∷ 170 ∷ 170 ∷ [];
+    }
+
+-- A chain into a vacant record: refusal 17, and nothing is written.
+unfoldable pub rowVacantFirst : Row
+rowVacantFirst =
+    record {
+      sheet = sheetVacantFirst;
+      grouping = replicate 3 170;
+      store = replicate 9 170;
+      answer = refused 17 3;
+      groupingAfter = 170 ∷ 170 ∷ 170 ∷ [];
+      storeAfter = 170 ∷ 170 ∷ 170 ∷ 170 ∷ 170 ∷ 170 ∷ 170 ∷ 170 ∷ 170 ∷ [];
+    }
+
+-- The rows with withdrawn conditions and vacant records,
+unfoldable pub withdrawnRows : List Row
+withdrawnRows = rowWithdrawn ∷ rowStillCannot ∷ rowVacantFirst ∷ []
+
+-- and the starred ones.
 unfoldable pub starredRows : List Row
-starredRows = rowA ∷ rowB ∷ rowC ∷ rowFull ∷ rowD ∷ rowEmpty ∷ rowNoTerm ∷ rowSameSame ∷ rowApartSame ∷ []
+starredRows = rowA ∷ rowB ∷ rowC ∷ rowFull ∷ rowD ∷ rowEmpty ∷ rowOneHead ∷ rowSameSame ∷ rowApartSame ∷ []
 
 -- "Sheet C .. Printed": what document 01 shows, a line of it a line here.
 unfoldable pub printedC : List ℕ
@@ -248,3 +353,11 @@ printedC =
     103 ∷ 114 ∷ 111 ∷ 117 ∷ 110 ∷ 100 ∷ 32 ∷ 50 ∷ 10 ∷
     115 ∷ 112 ∷ 108 ∷ 105 ∷ 116 ∷ 32 ∷ 49 ∷ 32 ∷ 51 ∷ 32 ∷ 48 ∷ 10 ∷
     109 ∷ 101 ∷ 116 ∷ 32 ∷ 49 ∷ 32 ∷ 50 ∷ 32 ∷ 49 ∷ 10 ∷ []
+
+-- What is printed of A with condition 1 withdrawn: "k, read or printed, still counts" the vacant record.
+unfoldable pub printedWithdrawn : List ℕ
+printedWithdrawn =
+    108 ∷ 111 ∷ 116 ∷ 115 ∷ 32 ∷ 51 ∷ 32 ∷ 99 ∷ 111 ∷ 110 ∷ 100 ∷ 105 ∷ 116 ∷ 105 ∷ 111 ∷ 110 ∷ 115 ∷ 32 ∷ 51 ∷ 32 ∷
+    116 ∷ 101 ∷ 114 ∷ 109 ∷ 115 ∷ 32 ∷ 51 ∷ 10 ∷
+    115 ∷ 112 ∷ 108 ∷ 105 ∷ 116 ∷ 32 ∷ 50 ∷ 32 ∷ 51 ∷ 32 ∷ 48 ∷ 10 ∷
+    109 ∷ 101 ∷ 116 ∷ 32 ∷ 49 ∷ 32 ∷ 50 ∷ 32 ∷ 50 ∷ 10 ∷ []

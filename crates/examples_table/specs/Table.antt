@@ -1,13 +1,13 @@
--- The starred sheets, proved in one go: from bytes to bytes, by computation.
+-- The starred sheets, and those with withdrawn conditions, proved in one go each: from bytes to bytes, by computation.
 use Prim.Native.Nat.{ℕ, zero, suc, _*_}
-use mathlib.Core.List.{List, map}
+use mathlib.Core.List.{List, [], _∷_, map}
 use mathlib.Core.Path.{_≡_, refl}
 use lib.ListN.{take}
 use Rattle.buffers.specs.Bytes.{number, twoBytes}
-use Rattle.sheet.specs.Format.{headAt, signAt, spareAt, firstLotAt, secondLotAt, nextAt}
-use Rattle.sheet.specs.Checks.{firstRefusal, lowestRefusal, check1, check2, check3, check4, wellFormed, check5, member, walkChain, walkChains, walked, check6, check7, sheetChecks, sheetVerdict}
+use Rattle.sheet.specs.Format.{headAt, signAt, spareAt, firstLotAt, secondLotAt, nextAt, zeroBytes, vacant}
+use Rattle.sheet.specs.Checks.{firstRefusal, lowestRefusal, check1, check2, check3, check4, wellFormed, check5, member, walkChain, walkChains, walked, check17And6, check7, sheetChecks, sheetVerdict}
 use Rattle.sheet.specs.Conditions.{chain, recordsFrom, termsFrom, countUp, conditions}
-use Rattle.sheet.specs.Answers.{Answer, refused, answered}
+use Rattle.sheet.specs.Answers.{Answer, refused, answered, readAnswer}
 use Rattle.equality.specs.Meaning.{anyTerm, someTerm}
 use Rattle.equality.specs.Node.{merged, classes, marked, value, taken, groundOrSplit, node}
 use Rattle.equality.specs.Search.{isMet, afterSame, visitNode, visit, sameTerms, allSameTerms, searchTree, nodeCount, metDecisions, groupingBytes}
@@ -18,7 +18,7 @@ use Rattle.outcome.specs.Outcome.{Outcome, resultOf, searchOutcome}
 use Rattle.refutation.specs.Refutation.{groundFails, nearest, walkFrom, check10, walkVerdict, listVerdict, checkAnswer}
 use Rattle.text.specs.Lines.{digits, decimal, line}
 use Rattle.text.specs.Program.{headerLine, recordLine, recordLines, refusedLine, metLine, cannotLine, resultText, printed}
-use Rattle.examples_table.specs.Sheets.{Row, starredRows, printedC, sheetA, sheetB, sheetC, sheetD, sheetEmpty, sheetNoTerm, sheetSameSame, sheetApartSame, rowA, rowB, rowC, rowFull, rowD, rowEmpty, rowNoTerm, rowSameSame, rowApartSame}
+use Rattle.examples_table.specs.Sheets.{Row, starredRows, withdrawnRows, printedC, printedWithdrawn, sheetA, sheetB, sheetC, sheetD, sheetEmpty, sheetOneHead, sheetSameSame, sheetApartSame, sheetWithdrawn, sheetStillCannot, sheetVacantFirst, sheetTwiceFirst, sheetNotBlanked, sheetNearlyVacant, sheetVacantOnly, rowA, rowB, rowC, rowFull, rowD, rowEmpty, rowOneHead, rowSameSame, rowApartSame, rowWithdrawn, rowStillCannot, rowVacantFirst}
 
 -- A row's outcome, and what the other services say of it: where it is met, the evaluator of the grouping as it is left; where it cannot be met, the
 -- checker of the records written; where it is refused, the refusal.
@@ -48,8 +48,20 @@ expected row =
       confirmed = confirmedAs (row .answer);
     }
 
--- Every starred sheet has the outcome that document 01 gives, down to the last byte of both buffers; its grouping evaluates to 0, or its records
--- pass the checker; and sheet C prints what document 01 shows.
+-- Every starred sheet has the outcome that document 01 gives (and document 02 where it turns), down to the last byte of both buffers; its grouping evaluates
+-- to 0, or its records pass the checker; and sheet C prints what document 01 shows.
 pub starred : (map computed starredRows ≡ map expected starredRows) × (printed sheetC ≡ printedC)
-unfolding starredRows rowA rowB rowC rowFull rowD rowEmpty rowNoTerm rowSameSame rowApartSame printedC sheetA sheetB sheetC sheetD sheetEmpty sheetNoTerm sheetSameSame sheetApartSame number twoBytes headAt signAt spareAt firstLotAt secondLotAt nextAt firstRefusal lowestRefusal check1 check2 check3 check4 wellFormed check5 member walkChain walkChains walked check6 check7 sheetChecks sheetVerdict chain recordsFrom termsFrom countUp conditions anyTerm someTerm merged classes marked value taken groundOrSplit node isMet afterSame visitNode visit sameTerms allSameTerms searchTree nodeCount metDecisions groupingBytes check8 groupingVerdict lowestUnmet evaluateAnswer records encode ofKind decode recordsOf encodeAll resultOf searchOutcome groundFails nearest walkFrom check10 walkVerdict listVerdict checkAnswer digits decimal line headerLine recordLine recordLines refusedLine metLine cannotLine resultText printed
+unfolding starredRows rowA rowB rowC rowFull rowD rowEmpty rowOneHead rowSameSame rowApartSame printedC sheetA sheetB sheetC sheetD sheetEmpty sheetOneHead sheetSameSame sheetApartSame number twoBytes headAt signAt spareAt firstLotAt secondLotAt nextAt zeroBytes vacant firstRefusal lowestRefusal check1 check2 check3 check4 wellFormed check5 member walkChain walkChains walked check17And6 check7 sheetChecks sheetVerdict chain recordsFrom termsFrom countUp conditions anyTerm someTerm merged classes marked value taken groundOrSplit node isMet afterSame visitNode visit sameTerms allSameTerms searchTree nodeCount metDecisions groupingBytes check8 groupingVerdict lowestUnmet evaluateAnswer records encode ofKind decode recordsOf encodeAll resultOf searchOutcome groundFails nearest walkFrom check10 walkVerdict listVerdict checkAnswer digits decimal line headerLine recordLine recordLines refusedLine metLine cannotLine resultText printed
 starred = (refl, refl)
+
+-- Likewise with withdrawn conditions and vacant records. The reader counts vacant records in k, refuses by 17 or by 6 as the walk along the chains comes to
+-- the one or the other, by 7 a record that was not blanked, and by 5 one that is vacant but for a byte; a ground on a withdrawn condition is refused by 12;
+-- and k is printed with the vacant records.
+pub withdrawn :
+    (map computed withdrawnRows ≡ map expected withdrawnRows)
+    × (map readAnswer (sheetWithdrawn ∷ sheetVacantOnly ∷ sheetVacantFirst ∷ sheetTwiceFirst ∷ sheetNotBlanked ∷ sheetNearlyVacant ∷ [])
+    ≡ answered 3 3 3 ∷ answered 1 0 1 ∷ refused 17 3 ∷ refused 6 1 ∷ refused 7 1 ∷ refused 5 1 ∷ [])
+    × (checkAnswer sheetWithdrawn (2 ∷ 0 ∷ 1 ∷ 0 ∷ 0 ∷ 0 ∷ 0 ∷ 0 ∷ []) ≡ refused 12 1)
+    × (printed sheetWithdrawn ≡ printedWithdrawn)
+unfolding withdrawnRows rowWithdrawn rowStillCannot rowVacantFirst printedWithdrawn sheetWithdrawn sheetStillCannot sheetVacantFirst sheetTwiceFirst sheetNotBlanked sheetNearlyVacant sheetVacantOnly readAnswer number twoBytes headAt signAt spareAt firstLotAt secondLotAt nextAt zeroBytes vacant firstRefusal lowestRefusal check1 check2 check3 check4 wellFormed check5 member walkChain walkChains walked check17And6 check7 sheetChecks sheetVerdict chain recordsFrom termsFrom countUp conditions anyTerm someTerm merged classes marked value taken groundOrSplit node isMet afterSame visitNode visit sameTerms allSameTerms searchTree nodeCount metDecisions groupingBytes check8 groupingVerdict lowestUnmet evaluateAnswer records encode ofKind decode recordsOf encodeAll resultOf searchOutcome groundFails nearest walkFrom check10 walkVerdict listVerdict checkAnswer digits decimal line headerLine recordLine recordLines refusedLine metLine cannotLine resultText printed
+withdrawn = (refl, refl, refl, refl)

@@ -57,8 +57,8 @@ fn of_reading(reading: Reading) -> Numbers
         Reading::Accepted {
             lots,
             conditions,
-            terms,
-        } => answered(lots as u32, conditions as u32, terms as u32),
+            records,
+        } => answered(lots as u32, conditions as u32, records as u32),
     }
 }
 
@@ -101,7 +101,7 @@ fn of_written(answer: WriteAnswer) -> Numbers
     }
 }
 
-// The reader: lots, conditions and terms.
+// The reader: lots, conditions and term records.
 #[no_mangle]
 pub extern "C" fn lihumbay_read(sheet: &[u8]) -> Numbers
     ensures answer { λ r. ⌜ r ≡ numbersOf (readAnswer (now (sheet .entry))) ⌝ }

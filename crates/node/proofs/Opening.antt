@@ -11,8 +11,7 @@ use Rattle.sheet.specs.Format.{sameSign, nextAt}
 use Rattle.sheet.specs.Checks.{Accepted}
 use Rattle.sheet.specs.Conditions.{Term, same, apart, termOf, termAt, termsFrom}
 use Rattle.buffers.specs.Lists.{All}
-use Rattle.sheet.proofs.Accepted.{sound}
-use Rattle.sheet.proofs.ChainEnds.{terms-end, terms-step}
+use Rattle.sheet.proofs.ChainEnds.{terms-end, terms-step, next-on}
 use Rattle.equality.specs.Meaning.{anyTerm}
 use Rattle.equality.specs.Node.{Decisions, classOf, classes, share, marked, markedApart, Value, isTrue, isFalse, isOpen, value, trueOrOpenApart, passedOver, ground, split, openOr, groundOrSplit}
 use Rattle.buffers.proofs.Lists.{all-map, all-first, all-second, all-both}
@@ -134,7 +133,7 @@ module _ (marks : ℕ → ℕ → Bool) (s : List ℕ) (ok : Accepted s) (from a
 
     -- they may be looked at from here on;
     pub passed-resumes : PassesTo s from at ds
-    passed-resumes = record { within = l .within; passed = l .passed; place = l .place; closed = none-ground ds (l .passed) none-passed }
+    passed-resumes = record { on = l .on; passed = l .passed; place = l .place; closed = none-ground ds (l .passed) none-passed }
 
     -- where the chain ends, none is open;
     pub none-open : at ≡ 0 → (c : ℕ) → ground c ≡ groundOrSplit ds c (termsFrom s from)
@@ -148,7 +147,7 @@ module _ (marks : ℕ → ℕ → Bool) (s : List ℕ) (ok : Accepted s) (from a
     unfolding groundOrSplit
     open-here a b h t e c =
         let step : termsFrom s at ≡ same a b ∷ termsFrom s (nextAt s at) =
-        terms-step s ok at h (l .within) ∙ ap (λ (u : Term). u ∷ termsFrom s (nextAt s at)) t in
+        terms-step s ok at h (l .on .within) ∙ ap (λ (u : Term). u ∷ termsFrom s (nextAt s at)) t in
         let here : value ds (same a b) ≡ openSame ds (same a b) = (rw step at (all-second _ (l .passed) (termsFrom s at) values)) .0 in
         let opened : value ds (same a b) ≡ isOpen = here ∙ ap (λ p. cond p isFalse isOpen) (sym (says a b (unshared ds a b here)) ∙ e) in
         sym
@@ -161,11 +160,11 @@ module _ (marks : ℕ → ℕ → Bool) (s : List ℕ) (ok : Accepted s) (from a
     pub open-leaves : (a b : ℕ) → 1 ≤ at → termAt s at ≡ same a b → PassesTo s from (nextAt s at) (apart a b ∷ ds)
     open-leaves a b h t =
         record {
-          within = sound s ok .records at h (l .within) .next;
+          on = next-on s ok at h (l .on);
           passed = l .passed ++ termAt s at ∷ [];
           place =
               l .place
-              ∙ ap (λ (ts : List Term). l .passed ++ ts) (terms-step s ok at h (l .within))
+              ∙ ap (λ (ts : List Term). l .passed ++ ts) (terms-step s ok at h (l .on .within))
               ∙ sym (append-assoc (l .passed) (termAt s at ∷ []) (termsFrom s (nextAt s at)));
           closed =
               none-ground (apart a b ∷ ds) (l .passed ++ termAt s at ∷ [])

@@ -1,8 +1,9 @@
 -- Going on within the taken condition: what the terms from a record on decide, and where the apart branch of a split goes on.
-use Prim.Native.Nat.{ℕ, _≤_}
+use Prim.Native.Nat.{ℕ}
 use mathlib.Core.List.{List, [], _∷_, _++_, append-assoc}
 use mathlib.Core.Path.{_≡_, refl, sym, ap, _∙_}
-use Rattle.sheet.specs.Format.{recordCount, headAt}
+use Rattle.sheet.specs.Format.{headAt}
+use Rattle.sheet.specs.Inner.{OnChain}
 use Rattle.sheet.specs.Conditions.{Term, apart, termsFrom, conditionAt, conditions}
 use Rattle.equality.specs.Node.{Decisions, noCondition, takes, taken, met, groundOrSplit, nodeOf, node}
 use Rattle.equality.proofs.Node.{taken-apart, passed-by}
@@ -19,11 +20,11 @@ unfolding node
 none-met ds s e = rw e
 
 -- the condition taken is gone on within from its head on.
-pub head-resumes : (ds : Decisions) (s : List ℕ) (c head : ℕ) → head ≡ headAt s c → head ≤ recordCount s → taken ds 1 (conditions s) ≡ takes c (conditionAt s c)
+pub head-resumes : (ds : Decisions) (s : List ℕ) (c head : ℕ) → head ≡ headAt s c → OnChain s head → taken ds 1 (conditions s) ≡ takes c (conditionAt s c)
     → ResumesWithin s c head ds
 unfolding groundOrSplit
 head-resumes ds s c head e h t =
-    record { condition = t; passes = record { within = h; passed = []; place = ap (termsFrom s) (sym e); closed = λ d. refl } }
+    record { condition = t; passes = record { on = h; passed = []; place = ap (termsFrom s) (sym e); closed = λ d. refl } }
 
 -- ---- from a record on
 
@@ -50,7 +51,7 @@ module _ (s : List ℕ) (c from : ℕ) (ds : Decisions) (w : ResumesWithin s c f
   passes-through : (es : Decisions) (r : ℕ) → NoneOpen es (w .passes .passed) → PassesTo s from r es → PassesTo s (headAt s c) r es
   passes-through es r none p =
       record {
-        within = p .within;
+        on = p .on;
         passed = w .passes .passed ++ p .passed;
         place =
             w .passes .place

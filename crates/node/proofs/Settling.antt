@@ -56,7 +56,7 @@ module _ (cs s : List ℕ) where
   pub found-sharing : (q : Term → Bool) (ok : Accepted s) (head at : ℕ) → Passing q s head at → 1 ≤ at → sharing cs (termAt s at) ≡ true
       → settledBy cs (termsFrom s head) ≡ true
   found-sharing q ok head at l h e =
-      ap (settledBy cs) (l .place ∙ ap (λ (ts : List Term). l .passed ++ ts) (terms-step s ok at h (l .within)))
+      ap (settledBy cs) (l .place ∙ ap (λ (ts : List Term). l .passed ++ ts) (terms-step s ok at h (l .on .within)))
       ∙ any-here (sharing cs) (l .passed) (termAt s at) (termsFrom s (nextAt s at)) e
 
 -- A true term whose lots share a class is a "same" term.

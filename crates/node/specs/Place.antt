@@ -5,7 +5,8 @@ use mathlib.Core.Path.{_≡_}
 use lib.ListN.{length}
 use Rattle.sheet.specs.declared.Condition.{Condition}
 use Rattle.sheet.specs.declared.Term as written
-use Rattle.sheet.specs.Format.{recordCount, headAt}
+use Rattle.sheet.specs.Format.{headAt}
+use Rattle.sheet.specs.Inner.{OnChain}
 use Rattle.sheet.specs.Conditions.{Term, apart, termsFrom, conditionAt, conditions}
 use Rattle.equality.specs.Node.{Decisions, noCondition, takes, taken, Node, met, ground, split, groundOrSplit}
 use Rattle.classes.specs.declared.Classes.{Classes}
@@ -41,7 +42,7 @@ pub record Markable (map : Classes) (pairs : List ℕ) (count : ℕ) : Type 0 wh
 
 -- The terms from record `from` on are some of which none is open, which alone would make a ground, and then the terms from record r on.
 pub record PassesTo (s : List ℕ) (from r : ℕ) (ds : Decisions) : Type 0 where
-  pub within : r ≤ recordCount s
+  pub on : OnChain s r
   pub passed : List Term
   pub place : termsFrom s from ≡ passed ++ termsFrom s r
   pub closed : (c : ℕ) → groundOrSplit ds c passed ≡ ground c
@@ -64,10 +65,10 @@ Stands s Scan ds = ⊥
 Stands s (Within c r) ds = ResumesWithin s (c .0) (r .0) ds
 Stands s Nowhere ds = taken ds 1 (conditions s) ≡ noCondition
 
--- Its record is one of the sheet's, or 0.
+-- Its record is one that a walk may be at.
 abbrev pub PlaceWithin : List ℕ → Place → Type 0
 PlaceWithin s Scan = Unit {0}
-PlaceWithin s (Within c r) = r .0 ≤ recordCount s
+PlaceWithin s (Within c r) = OnChain s (r .0)
 PlaceWithin s Nowhere = Unit {0}
 
 -- ---- what a split says of its apart branch

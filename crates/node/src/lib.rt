@@ -2,14 +2,13 @@
 ghost use mathlib.Core.Path.{_≡_};
 ghost use Prim.Native.Nat.{_-_, _≤_};
 ghost use lib.ListN.{length, set};
-ghost use Rattle.sheet.specs.Format.{recordCount};
 ghost use Rattle.sheet.specs.Conditions.{conditions};
 ghost use Rattle.equality.specs.Node.{Decisions, classes, node};
 ghost use Rattle.classes.specs.Maps.{ClassMap};
 ghost use Rattle.classes.specs.Pairs.{Represents};
 ghost use Rattle.marks.specs.Marks.{tableLength, Room, Marks, Outside};
 ghost use Rattle.node.specs.declared.Place.the-variants.{Within};
-ghost use Rattle.sheet.specs.Inner.{HasConditions};
+ghost use Rattle.sheet.specs.Inner.{HasConditions, OnChain};
 ghost use Rattle.node.specs.Settled.{Settled, Later, ClearedAbove};
 ghost use Rattle.node.specs.Place.{Markable, ResumesWithin, Resumes, Stands, PlaceWithin, nodeAs, splitOn, Leaves};
 use classes::Classes;
@@ -53,10 +52,11 @@ pub enum Node {
     Split(Split),
 }
 
-// The lowest-numbered condition that has no true term and no open "apart" term. A condition is passed over exactly where the classes meet it: some "same"
-// term's lots share a class, or some "apart" term's do not (`taken-by-classes`). Where a "same" term's do, the condition is settled: it is met under every
-// further decision, so the level of the path is noted for it, and a condition that has a level is not read. The map's array is read in place: a method that
-// hands the map back would copy it for each term.
+// The lowest-numbered condition that has no true term and no open "apart" term, and isn't withdrawn. A condition is passed over exactly where the classes meet
+// it: some "same" term's lots share a class, or some "apart" term's do not (`taken-by-classes`), or it has no term. Where a "same" term's do, the condition is
+// settled: it is met under every further decision, so the level of the path is noted for it, and a condition that has a level is not read. The map's array is
+// read in place: a method that hands the map back would copy it for each term. Records of a chain mostly follow each other in the sheet. Within such a run the
+// next record is known before its number is read: the loop over a run need not wait for it.
 pub fn scan(sheet: &[u8], m: u16, map: Classes, levels: &mut [u16], level: u16) -> Place
     requires { ⌜ HasConditions (now sheet) m × Settled (map .lots) (now sheet) (now levels) level ⌝ }
     ensures stands { λ r. ⌜ ((ds : Decisions) → map .lots ≡ classes ds → Stands (now (sheet .entry)) r ds) ⌝ }
@@ -79,10 +79,11 @@ pub fn scan(sheet: &[u8], m: u16, map: Classes, levels: &mut [u16], level: u16) 
         let mut at = head;
         'terms: loop {
             if at.0 == 0 {
+                if head.0 == 0 {
+                    continue 'conditions;
+                }
                 break 'conditions Place::Within(Condition(c), head);
             }
-            // Records of a chain mostly follow each other in the sheet. Within such a run the next record is known before its number is read: the loop over a
-            // run need not wait for it.
             'run: loop {
                 let following = at.0 + 1;
                 let t = sheet::chain::term_at(sheet, at, m);
@@ -175,7 +176,7 @@ fn first_unmarked(
     condition: Condition,
     from: Record,
 ) -> Node
-    requires { ⌜ HasConditions (now sheet) m × ClassMap (now lots) × Room (now pairs) table × (from .0 ≤ recordCount (now sheet)) ⌝ }
+    requires { ⌜ HasConditions (now sheet) m × ClassMap (now lots) × Room (now pairs) table × OnChain (now sheet) (from .0) ⌝ }
     ensures node { λ r. ⌜ ((ds : Decisions) → now (lots .entry) ≡ classes ds → Marks (now (pairs .entry)) table (now (lots .entry)) ds → ResumesWithin (now (sheet .entry)) (condition .0) (from .0) ds → nodeAs r ≡ node ds (conditions (now (sheet .entry)))) ⌝ }
     ensures leaves { λ r. ⌜ ((ds : Decisions) → now (lots .entry) ≡ classes ds → Marks (now (pairs .entry)) table (now (lots .entry)) ds → ResumesWithin (now (sheet .entry)) (condition .0) (from .0) ds → Leaves (now (sheet .entry)) r ds) ⌝ }
 {
@@ -213,7 +214,7 @@ fn by_table(
     condition: Condition,
     from: Record,
 ) -> Node
-    requires { ⌜ HasConditions (now sheet) m × Markable map (now pairs) count × (from .0 ≤ recordCount (now sheet)) ⌝ }
+    requires { ⌜ HasConditions (now sheet) m × Markable map (now pairs) count × OnChain (now sheet) (from .0) ⌝ }
     ensures node { λ r. ⌜ ((ds : Decisions) → Represents map (now (pairs .entry)) count ds → ResumesWithin (now (sheet .entry)) (condition .0) (from .0) ds → nodeAs r ≡ node ds (conditions (now (sheet .entry)))) ⌝ }
     ensures leaves { λ r. ⌜ ((ds : Decisions) → Represents map (now (pairs .entry)) count ds → ResumesWithin (now (sheet .entry)) (condition .0) (from .0) ds → Leaves (now (sheet .entry)) r ds) ⌝ }
     ensures outside { λ r. ⌜ Outside (now (pairs .entry)) (now (pairs .exit)) (length (now (pairs .entry)) - tableLength) ⌝ }
@@ -233,7 +234,7 @@ fn first_open(
     condition: Condition,
     from: Record,
 ) -> Node
-    requires { ⌜ HasConditions (now sheet) m × Markable map (now pairs) count × (from .0 ≤ recordCount (now sheet)) ⌝ }
+    requires { ⌜ HasConditions (now sheet) m × Markable map (now pairs) count × OnChain (now sheet) (from .0) ⌝ }
     ensures node { λ r. ⌜ ((ds : Decisions) → Represents map (now (pairs .entry)) count ds → ResumesWithin (now (sheet .entry)) (condition .0) (from .0) ds → nodeAs r ≡ node ds (conditions (now (sheet .entry)))) ⌝ }
     ensures leaves { λ r. ⌜ ((ds : Decisions) → Represents map (now (pairs .entry)) count ds → ResumesWithin (now (sheet .entry)) (condition .0) (from .0) ds → Leaves (now (sheet .entry)) r ds) ⌝ }
     ensures outside { λ r. ⌜ Outside (now (pairs .entry)) (now (pairs .exit)) (length (now (pairs .entry)) - tableLength) ⌝ }

@@ -46,7 +46,7 @@ resultOf Passes capacity tree = fullOr (ltb capacity (nodeCount tree)) capacity 
 unfoldable pub check9 : List ℕ → List ℕ → Verdict
 check9 s store = refusesIf (ltb (capacity store) (nodeCount (searchTree (conditions s)))) 9 (capacity store)
 
--- The first of checks 1 to 9 that refuses.
+-- The first of checks 1 to 9 and 17 that refuses.
 unfoldable pub searchVerdict : List ℕ → List ℕ → List ℕ → Verdict
 searchVerdict s grouping store = orElse (groupingVerdict s grouping) (check9 s store)
 

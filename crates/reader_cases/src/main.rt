@@ -4,7 +4,7 @@
 //
 // A plain sheet of N lots and M conditions, whose first chain has K records, each "same 1 1", and the changes made to it in turn, each a
 // letter and two numbers: h C R sets the head of condition C to R; of record R, s R V sets the sign, p R V the spare byte, a R V and b R V the
-// lots, x R V the next; l LENGTH 0 cuts the sheet, or lengthens it. Standard output has the label and the answer.
+// lots, x R V the next; v R 0 makes record R vacant; l LENGTH 0 cuts the sheet, or lengthens it. Standard output has the label and the answer.
 mod line; // line.rt: places and numbers in the text
 mod plain; // plain.rt: the sheet in the making
 
@@ -86,12 +86,12 @@ fn say(reading: Reading) {
         Reading::Accepted {
             lots,
             conditions,
-            terms,
+            records,
         } => {
             io::write_all(STDOUT_FILENO, b": accepted");
             field(lots as u64);
             field(conditions as u64);
-            field(terms as u64);
+            field(records as u64);
         }
         Reading::Refused { check, place } => {
             io::write_all(STDOUT_FILENO, b": refused");

@@ -58,6 +58,14 @@ fn chain(bytes: &mut [u8; ROOM], m: u16, k: u16) {
     }
 }
 
+// All eight bytes of a record zero.
+fn blank(bytes: &mut [u8; ROOM], m: u16, r: u16) {
+    put_number(bytes, field(m, r, 0), 0);
+    put_number(bytes, field(m, r, 2), 0);
+    put_number(bytes, field(m, r, 4), 0);
+    put_number(bytes, field(m, r, 6), 0);
+}
+
 // A change: its letter, a condition or record, and the new value.
 pub fn change(bytes: &mut [u8; ROOM], m: u16, letter: u8, place: u16, value: u16) {
     match letter {
@@ -66,6 +74,7 @@ pub fn change(bytes: &mut [u8; ROOM], m: u16, letter: u8, place: u16, value: u16
         b'p' => put(bytes, field(m, place, 1), (value % 256) as u8),
         b'a' => put_number(bytes, field(m, place, 2), value),
         b'b' => put_number(bytes, field(m, place, 4), value),
+        b'v' => blank(bytes, m, place),
         _ => put_number(bytes, field(m, place, 6), value),
     }
 }

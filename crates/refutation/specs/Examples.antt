@@ -1,4 +1,5 @@
--- What the walk says of lists over document 01's sheet A, by computation: each of checks 10 to 15, with its place.
+-- What the walk says of lists over document 01's sheet A, by computation: each of checks 10 to 15, with its place; and of two lists over A with a condition
+-- withdrawn.
 use Prim.Native.Nat.{ℕ, zero, suc}
 use mathlib.Core.List.{List, [], _∷_, _++_}
 use mathlib.Core.Path.{_≡_, refl}
@@ -6,8 +7,8 @@ use lib.ListN.{take, set}
 use Rattle.sheet.specs.declared.Verdict.{Verdict}
 use Rattle.sheet.specs.declared.Verdict.the-variants.{Passes, Refuses}
 use Rattle.buffers.specs.Bytes.{number, twoBytes}
-use Rattle.sheet.specs.Format.{headAt, signAt, spareAt, firstLotAt, secondLotAt, nextAt}
-use Rattle.sheet.specs.Checks.{firstRefusal, lowestRefusal, check1, check2, check3, check4, wellFormed, check5, member, walkChain, walkChains, walked, check6, check7, sheetChecks}
+use Rattle.sheet.specs.Format.{headAt, signAt, spareAt, firstLotAt, secondLotAt, nextAt, zeroBytes, vacant}
+use Rattle.sheet.specs.Checks.{firstRefusal, lowestRefusal, check1, check2, check3, check4, wellFormed, check5, member, walkChain, walkChains, walked, check17And6, check7, sheetChecks}
 use Rattle.sheet.specs.Conditions.{chain, recordsFrom, termsFrom, countUp, conditions}
 use Rattle.equality.specs.Meaning.{anyTerm, someTerm}
 use Rattle.equality.specs.Node.{merged, classes, marked, value}
@@ -26,6 +27,15 @@ sheetA =
 -- Its own refutation, and the records that take a place in others.
 abbrev pub refutationA : List NodeRecord
 refutationA = splitRecord 1 2 5 ∷ splitRecord 2 3 4 ∷ groundRecord 3 ∷ groundRecord 2 ∷ groundRecord 1 ∷ []
+
+-- A with condition 1 withdrawn: its head is zero, and its record vacant.
+abbrev pub sheetWithdrawn : List ℕ
+sheetWithdrawn =
+    3 ∷ 0 ∷ 3 ∷ 0 ∷ 3 ∷ 0 ∷
+    0 ∷ 0 ∷ 2 ∷ 0 ∷ 3 ∷ 0 ∷
+    0 ∷ 0 ∷ 0 ∷ 0 ∷ 0 ∷ 0 ∷ 0 ∷ 0 ∷
+    1 ∷ 0 ∷ 2 ∷ 0 ∷ 3 ∷ 0 ∷ 0 ∷ 0 ∷
+    2 ∷ 0 ∷ 1 ∷ 0 ∷ 3 ∷ 0 ∷ 0 ∷ 0 ∷ []
 
 -- The verdict on some bytes.
 abbrev pub says : List ℕ → Verdict
@@ -59,6 +69,9 @@ pub verdicts :
     ∷ changed 38 1
     -- 12: condition 1, same 1 2, is open where the first split is on 1 3
     ∷ changed 4 3
+    -- 12: a ground on a withdrawn condition, where it would be the last one, and alone
+    ∷ listVerdict sheetWithdrawn (encodeAll refutationA)
+    ∷ listVerdict sheetWithdrawn (encodeAll (groundRecord 1 ∷ []))
     -- 13: a split's next, named at the split, also where the list is over
     ∷ changed 6 4
     ∷ changed 14 5
@@ -86,6 +99,8 @@ pub verdicts :
     ∷ Refuses 11 3
     ∷ Refuses 11 5
     ∷ Refuses 12 5
+    ∷ Refuses 12 5
+    ∷ Refuses 12 1
     ∷ Refuses 13 1
     ∷ Refuses 13 2
     ∷ Refuses 13 2
@@ -95,5 +110,5 @@ pub verdicts :
     ∷ Refuses 15 1025
     ∷ Refuses 14 1025
     ∷ []
-unfolding number twoBytes headAt signAt spareAt firstLotAt secondLotAt nextAt firstRefusal lowestRefusal check1 check2 check3 check4 wellFormed check5 member walkChain walkChains walked check6 check7 sheetChecks chain recordsFrom termsFrom countUp conditions anyTerm someTerm merged classes marked value encode encodeAll ofKind decode recordsOf groundFails nearest walkFrom check10 walkVerdict listVerdict splits
+unfolding number twoBytes headAt signAt spareAt firstLotAt secondLotAt nextAt zeroBytes vacant firstRefusal lowestRefusal check1 check2 check3 check4 wellFormed check5 member walkChain walkChains walked check17And6 check7 sheetChecks chain recordsFrom termsFrom countUp conditions anyTerm someTerm merged classes marked value encode encodeAll ofKind decode recordsOf groundFails nearest walkFrom check10 walkVerdict listVerdict splits
 verdicts = refl

@@ -38,7 +38,7 @@ notFalse isFalse = false
 notFalse isOpen = true
 
 -- "same, a ground | 12 | a term isn't false | record". "A ground passes when every term of its condition is false by the node rules under that
--- path."
+-- path." Of a withdrawn condition, "a ground naming it is refused by 12" (document 02).
 unfoldable pub groundFails : Decisions → List Term → Bool
 groundFails ds ts = someTerm (λ t. notFalse (value ds t)) ts
 

@@ -1,14 +1,18 @@
--- Sheets that say the same are answered alike. Nothing here asks how the records stand, or what a condition with no term counts for.
-use Prim.Native.Nat.{ℕ}
-use mathlib.Core.List.{List, [], _∷_, _++_}
+-- Sheets that say the same are answered alike, have as many records that aren't vacant, and the same conditions withdrawn. Nothing here asks how the records
+-- stand, or what a condition with no term counts for.
+use Prim.Native.Nat.{ℕ, suc, _-_, _≤_}
+use mathlib.Core.List.{List, [], _∷_, _++_, flatten}
+use mathlib.Core.Logic.{_↔_}
 use mathlib.Core.Path.{_≡_, refl, sym, ap, fun-ext, _∙_}
-use lib.ListN.{length}
+use native.Mathlib.Omega.{arith}
+use lib.ListN.{length, getD}
 use Rattle.sheet.specs.declared.Verdict.{Verdict}
-use Rattle.sheet.specs.Format.{conditionCount, recordCount}
+use Rattle.sheet.specs.Format.{conditionCount, recordCount, headAt, filledCount}
 use Rattle.sheet.specs.Checks.{firstRefusal, sheetChecks}
-use Rattle.sheet.specs.Answers.{readAnswer}
+use Rattle.sheet.specs.Conditions.{Term, conditionAt}
+use Rattle.sheet.specs.Answers.{withThird, readAnswer}
 use Rattle.sheet.proofs.Further.{further-accepted}
-use Rattle.sheet.proofs.Conditions.{conditions-length, terms-count}
+use Rattle.sheet.proofs.Conditions.{conditions-length, conditions-at, terms-count, withdrawn-empty, empty-withdrawn}
 use Rattle.equality.specs.Evaluator.{check8, groupingVerdict, evaluateAnswer}
 use Rattle.store.specs.Records.{NodeRecord, splitRecord, groundRecord, metRecord, noRecord, recordsOf}
 use Rattle.refutation.specs.Refutation.{Split, walkRecord, walkFrom, check10, walkVerdict, listVerdict, checkAnswer}
@@ -16,20 +20,38 @@ use Rattle.outcome.specs.Outcome.{searchOutcome}
 use Rattle.repack.specs.Promises.{Alike, ServedAlike}
 
 module _ (s t : List ℕ) (alike : Alike s t) where
-  -- They have as many conditions, and as many records, since each record lies on a chain.
+  -- They have as many conditions.
   alike-conditions : conditionCount s ≡ conditionCount t
   alike-conditions = sym (conditions-length s) ∙ ap length (alike .lists) ∙ conditions-length t
 
-  alike-records : recordCount s ≡ recordCount t
-  alike-records = sym (terms-count s (alike .first)) ∙ rw (alike .lists) (terms-count t (alike .second))
+  -- Each is the same,
+  alike-condition : (c : ℕ) → 1 ≤ c → c ≤ conditionCount s → conditionAt s c ≡ conditionAt t c
+  alike-condition c low high =
+      let number : suc (c - 1) ≡ c = omega arith in
+      ap (conditionAt s) (sym number)
+      ∙ sym (conditions-at s (c - 1) (omega arith))
+      ∙ ap (λ (tss : List (List Term)). getD tss (c - 1) []) (alike .lists)
+      ∙ conditions-at t (c - 1) (omega (arith, alike-conditions))
+      ∙ ap (conditionAt t) number
+
+  -- so the same ones are withdrawn: "equal lists with the struck places equal too" (document 02).
+  pub alike-withdrawn : (c : ℕ) → 1 ≤ c → c ≤ conditionCount s → (headAt s c ≡ 0 ↔ headAt t c ≡ 0)
+  alike-withdrawn c low high =
+      let same = alike-condition c low high in (
+        (λ e. empty-withdrawn t (alike .second) c low (omega (arith, alike-conditions)) (sym same ∙ withdrawn-empty s c e)),
+        (λ e. empty-withdrawn s (alike .first) c low high (same ∙ withdrawn-empty t c e)),
+      )
 
   -- Further checks decide, where these say the same of both.
   alike-further : (vs ws : List Verdict) → firstRefusal vs ≡ firstRefusal ws → firstRefusal (sheetChecks s ++ vs) ≡ firstRefusal (sheetChecks t ++ ws)
   alike-further vs ws e = further-accepted s vs (alike .first) ∙ e ∙ sym (further-accepted t ws (alike .second))
 
-  alike-read : readAnswer s ≡ readAnswer t
+  alike-read : readAnswer s ≡ withThird (recordCount s) (readAnswer t)
   unfolding readAnswer
-  alike-read = rw (alike .first, alike .second, alike .lots, alike-conditions, alike-records)
+  alike-read = rw (alike .first, alike .second, alike .lots, alike-conditions)
+
+  alike-filled : filledCount s ≡ filledCount t
+  alike-filled = sym (terms-count s (alike .first)) ∙ ap (λ (tss : List (List Term)). length (flatten tss)) (alike .lists) ∙ terms-count t (alike .second)
 
   -- ---- evaluator and search
 
@@ -69,4 +91,4 @@ module _ (s t : List ℕ) (alike : Alike s t) where
   -- ---- all of them
 
   pub served-alike : ServedAlike s t
-  served-alike = record { reads = alike-read; searches = alike-search; checks = alike-check; evaluates = alike-evaluate }
+  served-alike = record { reads = alike-read; filled = alike-filled; searches = alike-search; checks = alike-check; evaluates = alike-evaluate }

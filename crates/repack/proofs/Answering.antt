@@ -1,4 +1,4 @@
--- The checks that a repacking can fail, 1 to 7 on the sheet and then 16, and what it answers and leaves by them.
+-- The checks that a repacking can fail, 1 to 7 and 17 on the sheet and then 16, and what it answers and leaves by them.
 use Prim.Native.Nat.{ℕ, _≤_, _<_}
 use mathlib.Core.List.{List, [], _∷_}
 use mathlib.Core.Path.{_≡_, refl, sym, ap, _∙_}

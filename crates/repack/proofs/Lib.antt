@@ -1,6 +1,7 @@
 pub mod Alike
 pub mod Repacked
 pub mod Answering
+mod Terms
 mod Counts
 mod Packing
 mod Entry

@@ -1,18 +1,22 @@
--- The packed sheet (document 02, job 1): what it says, and which sheets have the same.
-use Prim.Native.Nat.{ℕ}
+-- The packed sheet (document 02, jobs 1 and 2): what it says, which sheets have the same, and that it has no vacant record.
+use Prim.Native.Nat.{ℕ, _+_, _*_, _-_, _≤_}
 use mathlib.Core.List.{List}
 use mathlib.Core.Logic.{_↔_}
 use mathlib.Core.Path.{_≡_, sym, ap, ap₂, _∙_}
+use native.Mathlib.Omega.{arith}
 use lib.ListN.{length}
-use Rattle.sheet.specs.Format.{lotCount}
+use Rattle.sheet.specs.Format.{lotCount, conditionCount, recordCount, headAt, filledCount}
 use Rattle.sheet.specs.Checks.{Accepted}
 use Rattle.sheet.specs.Conditions.{conditions}
+use Rattle.sheet.proofs.Accepted.{sound}
+use Rattle.sheet.proofs.Records.{filled-most}
+use Rattle.sheet.proofs.Conditions.{conditions-length, terms-count}
 use Rattle.canonical.specs.Canonical.{canonical, Within}
 use Rattle.canonical.proofs.Limits.{accepted-within}
-use Rattle.canonical.proofs.Canonical.{canonical-length, canonical-lots, canonical-accepted, canonical-conditions}
+use Rattle.canonical.proofs.Canonical.{canonical-length, canonical-lots, canonical-records, canonical-accepted, canonical-conditions}
 use Rattle.repack.specs.Promises.{Alike, ServedAlike}
 use Rattle.repack.specs.Repack.{repacked, repackedLength}
-use Rattle.repack.proofs.Alike.{served-alike}
+use Rattle.repack.proofs.Alike.{alike-withdrawn, served-alike}
 
 -- It has the packed length.
 pub repacked-length : (s : List ℕ) → length (repacked s) ≡ repackedLength s
@@ -32,9 +36,28 @@ module _ (s : List ℕ) (ok : Accepted s) where
         lists = canonical-conditions (lotCount s) (conditions s) within;
       }
 
-  -- so it is answered as the sheet is, number for number and byte for byte.
+  -- so it is answered as the sheet is, number for number and byte for byte, but for k.
   pub repacked-served : ServedAlike (repacked s) s
   repacked-served = served-alike (repacked s) s repacked-alike
+
+  -- "Repacking drops" vacant records: there are as many records as the sheet has that aren't vacant,
+  pub repacked-records : recordCount (repacked s) ≡ filledCount s
+  repacked-records = canonical-records (lotCount s) (conditions s) within ∙ terms-count s ok
+
+  -- none of them vacant,
+  pub repacked-filled : filledCount (repacked s) ≡ recordCount (repacked s)
+  repacked-filled = repacked-served .filled ∙ sym repacked-records
+
+  -- and the packed length is the sheet's less eight bytes for each vacant one,
+  pub repacked-shorter : repackedLength s + 8 * (recordCount s - filledCount s) ≡ length s
+  repacked-shorter =
+      omega (arith, conditions-length s, terms-count s ok, filled-most s (recordCount s) 1, sound s ok .header .whole)
+
+  -- "and keeps struck heads in place": a condition's head is zero there exactly where it is here.
+  pub repacked-heads : (c : ℕ) → 1 ≤ c → c ≤ conditionCount s → (headAt s c ≡ 0 ↔ headAt (repacked s) c ≡ 0)
+  repacked-heads c low high =
+      let same = repacked-alike in
+      alike-withdrawn s (repacked s) (record { first = same .second; second = same .first; lots = sym (same .lots); lists = sym (same .lists) }) c low high
 
 -- "Two sheets with equal lots and equal condition lists give equal bytes", accepted or not;
 pub equal-lists : (s t : List ℕ) → lotCount s ≡ lotCount t → conditions s ≡ conditions t → repacked s ≡ repacked t

@@ -4,8 +4,8 @@ use mathlib.Core.List.{List, [], _∷_, _++_, flatten}
 use mathlib.Core.Path.{_≡_, refl}
 use lib.ListN.{replicate}
 use Rattle.buffers.specs.Bytes.{number, twoBytes}
-use Rattle.sheet.specs.Format.{headAt, signAt, spareAt, firstLotAt, secondLotAt, nextAt}
-use Rattle.sheet.specs.Checks.{firstRefusal, lowestRefusal, check1, check2, check3, check4, wellFormed, check5, member, walkChain, walkChains, walked, check6, check7, sheetChecks}
+use Rattle.sheet.specs.Format.{headAt, signAt, spareAt, firstLotAt, secondLotAt, nextAt, zeroBytes, vacant}
+use Rattle.sheet.specs.Checks.{firstRefusal, lowestRefusal, check1, check2, check3, check4, wellFormed, check5, member, walkChain, walkChains, walked, check17And6, check7, sheetChecks}
 use Rattle.sheet.specs.Conditions.{chain, recordsFrom, termsFrom, countUp, conditions}
 use Rattle.sheet.specs.Answers.{Answer, refused, answered}
 use Rattle.canonical.specs.Canonical.{termRecord, chainRecords, sheetRecords, headsFrom, canonical}
@@ -29,7 +29,7 @@ sheetC =
     1 ∷ 0 ∷ 1 ∷ 0 ∷ 3 ∷ 0 ∷ 0 ∷ 0 ∷
     2 ∷ 0 ∷ 1 ∷ 0 ∷ 2 ∷ 0 ∷ 0 ∷ 0 ∷ []
 
--- Conditions with no term before and behind one of two terms, the second term's record first; and packed.
+-- Withdrawn conditions before and behind one of two terms, the second term's record first; and packed.
 abbrev pub zeroHeads : List ℕ
 zeroHeads =
     4 ∷ 0 ∷ 3 ∷ 0 ∷ 2 ∷ 0 ∷
@@ -44,7 +44,26 @@ zeroHeadsPacked =
     2 ∷ 0 ∷ 1 ∷ 0 ∷ 1 ∷ 0 ∷ 2 ∷ 0 ∷
     1 ∷ 0 ∷ 4 ∷ 0 ∷ 2 ∷ 0 ∷ 0 ∷ 0 ∷ []
 
--- No lots and no conditions. No lots, and a condition with no term. A sheet of three bytes. One whose only record is never reached.
+-- Sheet C with condition 1 withdrawn: its head is zero, and its records are vacant. Packed, it has one record; its head stays.
+abbrev pub withdrawnC : List ℕ
+withdrawnC =
+    3 ∷ 0 ∷ 2 ∷ 0 ∷ 3 ∷ 0 ∷
+    0 ∷ 0 ∷ 3 ∷ 0 ∷
+    0 ∷ 0 ∷ 0 ∷ 0 ∷ 0 ∷ 0 ∷ 0 ∷ 0 ∷
+    0 ∷ 0 ∷ 0 ∷ 0 ∷ 0 ∷ 0 ∷ 0 ∷ 0 ∷
+    2 ∷ 0 ∷ 1 ∷ 0 ∷ 2 ∷ 0 ∷ 0 ∷ 0 ∷ []
+
+abbrev pub withdrawnPacked : List ℕ
+withdrawnPacked =
+    3 ∷ 0 ∷ 2 ∷ 0 ∷ 1 ∷ 0 ∷
+    0 ∷ 0 ∷ 1 ∷ 0 ∷
+    2 ∷ 0 ∷ 1 ∷ 0 ∷ 2 ∷ 0 ∷ 0 ∷ 0 ∷ []
+
+-- No conditions, and a vacant record.
+abbrev pub vacantOnly : List ℕ
+vacantOnly = 1 ∷ 0 ∷ 0 ∷ 0 ∷ 1 ∷ 0 ∷ replicate 8 0
+
+-- No lots and no conditions. No lots, and a withdrawn condition. A sheet of three bytes. One whose only record is never reached.
 abbrev pub empty : List ℕ
 empty = replicate 6 0
 
@@ -82,6 +101,11 @@ pub repackings :
     ∷ repacking empty 5
     ∷ repacking empty 8
     ∷ repacking oneHead 8
+    -- vacant records are dropped: the packed length is below the sheet's
+    ∷ repacking withdrawnC 17
+    ∷ repacking withdrawnC 18
+    ∷ repacking withdrawnC 34
+    ∷ repacking vacantOnly 6
     -- the reader's refusals come before 16
     ∷ repacking short 5
     ∷ repacking unreached 0
@@ -96,8 +120,12 @@ pub repackings :
     ∷ leaves (refused 16 6) (room 5)
     ∷ leaves (answered 6 0 0) (empty ++ room 2)
     ∷ leaves (answered 8 0 0) oneHead
+    ∷ leaves (refused 16 18) (room 17)
+    ∷ leaves (answered 18 0 0) withdrawnPacked
+    ∷ leaves (answered 18 0 0) (withdrawnPacked ++ room 16)
+    ∷ leaves (answered 6 0 0) (1 ∷ 0 ∷ 0 ∷ 0 ∷ 0 ∷ 0 ∷ [])
     ∷ leaves (refused 1 0) (room 5)
     ∷ leaves (refused 7 1) []
     ∷ []
-unfolding number twoBytes headAt signAt spareAt firstLotAt secondLotAt nextAt firstRefusal lowestRefusal check1 check2 check3 check4 wellFormed check5 member walkChain walkChains walked check6 check7 sheetChecks chain recordsFrom termsFrom countUp conditions termRecord chainRecords sheetRecords headsFrom canonical flatten check16 repackVerdict repackAnswer repackOut
+unfolding number twoBytes headAt signAt spareAt firstLotAt secondLotAt nextAt zeroBytes vacant firstRefusal lowestRefusal check1 check2 check3 check4 wellFormed check5 member walkChain walkChains walked check17And6 check7 sheetChecks chain recordsFrom termsFrom countUp conditions termRecord chainRecords sheetRecords headsFrom canonical flatten check16 repackVerdict repackAnswer repackOut
 repackings = refl

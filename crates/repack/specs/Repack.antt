@@ -1,4 +1,4 @@
--- Repacked sheets (document 02, job 1).
+-- Repacked sheets (document 02, jobs 1 and 2).
 use Prim.Native.Nat.{ℕ}
 use mathlib.Core.List.{List, [], _∷_, _++_}
 use lib.Dec.{ltb}
@@ -12,11 +12,12 @@ use Rattle.canonical.specs.Canonical.{canonical, canonicalLength}
 use Rattle.writer.specs.Answers.{outputAfter}
 
 -- "the records of condition 1 first, in chain order, then condition 2, and so on, each chain running through neighbouring numbers": the packed sheet, which is
--- the canonical one of the sheet's own lots and conditions,
+-- the canonical one of the sheet's own lots and conditions. It has a record for each term, so "Repacking drops" the vacant ones "and keeps struck heads in
+-- place".
 abbrev pub repacked : List ℕ → List ℕ
 repacked s = canonical (lotCount s) (conditions s)
 
--- and "the packed length".
+-- "the packed length"
 abbrev pub repackedLength : List ℕ → ℕ
 repackedLength s = canonicalLength (conditions s)
 

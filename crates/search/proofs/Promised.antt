@@ -95,7 +95,7 @@ refused-answered : {check place first second third : ℕ} → refused check plac
 refused-answered e = let z : _≡_ {A = ℕ} 0 1 = cc in omega arith
 
 module _ (s grouping store : List ℕ) where
-  -- The first of checks 1 to 9 that refuses, by what the search comes to.
+  -- The first of checks 1 to 9 and 17 that refuses, by what the search comes to.
   verdict-refused : {check place : ℕ} → groupingVerdict s grouping ≡ Refuses check place → searchVerdict s grouping store ≡ Refuses check place
   unfolding searchVerdict
   verdict-refused v = ap (λ (w : Verdict). orElse w (check9 s store)) v

@@ -47,7 +47,7 @@ openByMap s lots pairs count = openInAll (shutBy lots pairs count) (conditions s
 -- Where a visit may go on is within the sheet.
 pub place-within : (s : List ℕ) (from : Place) (ds : Decisions) → Resumes s from ds → PlaceWithin s from
 place-within s Scan ds resumes = tt
-place-within s (Within c r) ds resumes = resumes .passes .within
+place-within s (Within c r) ds resumes = resumes .passes .on
 place-within s Nowhere ds resumes = tt
 
 -- The condition of a split is one of the sheet's;

@@ -32,7 +32,7 @@ searchCase s grouping store = answerCase (resultOf (groupingVerdict s grouping) 
 
 -- ---- what is promised of the answer, in document 01's numbers
 
--- Refused exactly when one of checks 1 to 9 refuses; number and place are those of the first that does.
+-- Refused exactly when one of checks 1 to 9 and 17 refuses; number and place are those of the first that does.
 abbrev pub RefusedExactly : Answer → List ℕ → List ℕ → List ℕ → Type 0
 RefusedExactly a s grouping store = (check place : ℕ) → (a ≡ refused check place ↔ searchVerdict s grouping store ≡ Refuses check place)
 

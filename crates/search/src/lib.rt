@@ -259,7 +259,7 @@ pub fn search(sheet: &[u8], grouping: &mut [u8], store: &mut [u8]) -> SearchAnsw
         Reading::Accepted {
             lots,
             conditions,
-            terms: _,
+            records: _,
         } => {
             if grouping.len() < (lots as usize) {
                 return SearchAnswer::Refused {

@@ -10,8 +10,8 @@ use lib.ListN.{length}
 use borrow.Author.Tests.{eqb-true, leb-true, le-leb, ltb-false, not-false}
 use Rattle.sheet.specs.declared.Header.{Header}
 use Rattle.sheet.specs.declared.Verdict.the-variants.{Passes}
-use Rattle.sheet.specs.Format.{lowestLot, headerLength, lotCount, conditionCount, recordCount, headAt, sameSign, apartSign, signAt, spareAt, firstLotAt, secondLotAt, nextAt}
-use Rattle.sheet.specs.Checks.{orElse, firstRefusal, check2, check3, check4, check5, check6, check7, lotInRange, wellFormed, Walk, reached, twice, member, walked, chainsVerdict, reachedBy, headerChecks, sheetChecks, sheetVerdict, Accepted}
+use Rattle.sheet.specs.Format.{lowestLot, headerLength, lotCount, conditionCount, recordCount, headAt, sameSign, apartSign, signAt, spareAt, firstLotAt, secondLotAt, nextAt, vacant}
+use Rattle.sheet.specs.Checks.{orElse, firstRefusal, check2, check3, check4, check5, check17And6, check7, lotInRange, wellFormed, Walk, reached, twice, intoVacant, member, walked, chainsVerdict, reachedBy, headerChecks, sheetChecks, sheetVerdict, Accepted}
 use Rattle.sheet.specs.Conditions.{InLots}
 use Rattle.sheet.specs.Inner.{headerAt, HasHeader, HasRecord}
 use Rattle.sheet.proofs.Verdicts.{orElse-end, orElse-assoc, orElse-passes, firstRefusal-passes, refusesIf-passes, lowest-passes}
@@ -24,20 +24,20 @@ pub record SoundRecord (s : List ℕ) (r : ℕ) : Type 0 where
   pub second : InLots (lotCount s) (secondLotAt s r)
   pub next : nextAt s r ≤ recordCount s
 
--- All that the checks have found of an accepted sheet; `seen` are the records that their walk has reached.
+-- All that the checks have found of an accepted sheet; `seen` are the records that their walk has reached, all that aren't vacant.
 pub record Sound (s : List ℕ) : Type 0 where
   pub header : HasHeader s (headerAt s)
   pub heads : (c : ℕ) → 1 ≤ c → c ≤ conditionCount s → headAt s c ≤ recordCount s
-  pub records : (r : ℕ) → 1 ≤ r → r ≤ recordCount s → SoundRecord s r
+  pub records : (r : ℕ) → 1 ≤ r → r ≤ recordCount s → vacant s r ≡ false → SoundRecord s r
   pub seen : List ℕ
   pub walk : walked s ≡ reached seen
-  pub every : (r : ℕ) → 1 ≤ r → r ≤ recordCount s → member r seen ≡ true
+  pub every : (r : ℕ) → 1 ≤ r → r ≤ recordCount s → vacant s r ≡ false → member r seen ≡ true
 
 -- ---- the order of the checks
 
 -- The header's, then one after another.
 pub in-order : (s : List ℕ)
-    → sheetVerdict s ≡ orElse (firstRefusal (headerChecks s)) (orElse (check4 s) (orElse (check5 s) (orElse (check6 s) (check7 s))))
+    → sheetVerdict s ≡ orElse (firstRefusal (headerChecks s)) (orElse (check4 s) (orElse (check5 s) (orElse (check17And6 s) (check7 s))))
 unfolding sheetVerdict sheetChecks firstRefusal
 in-order s = simp (orElse-end, orElse-assoc)
 
@@ -62,6 +62,9 @@ has-record has r low high = record { counted = refl; least = low; whole = omega 
 either : (a b : Bool) → (a || b) ≡ true → (a ≡ true) ⊎ (b ≡ true)
 either true b e = inl refl
 either false b e = inr e
+
+other : {a b : Bool} → a ≡ false → (a || b) ≡ true → b ≡ true
+other absent e = rw absent at e
 
 -- The test on a lot decides.
 pub lot-in : (n lot : ℕ) → (lotInRange n lot ≡ true) ↔ InLots n lot
@@ -90,6 +93,7 @@ well-formed s r e =
 walk-passes : (w : Walk) → chainsVerdict w ≡ Passes → (seen : List ℕ) × (w ≡ reached seen)
 walk-passes (reached seen) e = (seen, refl)
 walk-passes (twice r) e = ([], cc)
+walk-passes (intoVacant r) e = ([], cc)
 
 -- ---- what each check has found when it passes
 
@@ -122,20 +126,21 @@ module _ (s : List ℕ) where
   heads-found p c low high = ltb-false _ _ (lowest-passes 4 _ _ _ p c low (omega arith))
 
   -- Check 5.
-  pub records-found : check5 s ≡ Passes → (r : ℕ) → 1 ≤ r → r ≤ recordCount s → SoundRecord s r
+  pub records-found : check5 s ≡ Passes → (r : ℕ) → 1 ≤ r → r ≤ recordCount s → vacant s r ≡ false → SoundRecord s r
   unfolding check5
-  records-found p r low high = well-formed s r (not-false _ (lowest-passes 5 _ _ _ p r low (omega arith)))
+  records-found p r low high filled = well-formed s r (other filled (not-false _ (lowest-passes 5 _ _ _ p r low (omega arith))))
 
-  -- Check 6.
-  pub walk-found : check6 s ≡ Passes → (seen : List ℕ) × (walked s ≡ reached seen)
-  unfolding check6
+  -- Checks 17 and 6.
+  pub walk-found : check17And6 s ≡ Passes → (seen : List ℕ) × (walked s ≡ reached seen)
+  unfolding check17And6
   walk-found p = walk-passes (walked s) p
 
   -- Check 7.
-  pub every-found : check7 s ≡ Passes → (seen : List ℕ) → walked s ≡ reached seen → (r : ℕ) → 1 ≤ r → r ≤ recordCount s → member r seen ≡ true
+  pub every-found : check7 s ≡ Passes → (seen : List ℕ) → walked s ≡ reached seen
+      → (r : ℕ) → 1 ≤ r → r ≤ recordCount s → vacant s r ≡ false → member r seen ≡ true
   unfolding check7
-  every-found p seen walk r low high =
-      ap (λ (w : Walk). member r (reachedBy w)) (sym walk) ∙ not-false _ (lowest-passes 7 _ _ _ p r low (omega arith))
+  every-found p seen walk r low high filled =
+      ap (λ (w : Walk). member r (reachedBy w)) (sym walk) ∙ other filled (not-false _ (lowest-passes 7 _ _ _ p r low (omega arith)))
 
   -- All of them.
   pub sound : Accepted s → Sound s

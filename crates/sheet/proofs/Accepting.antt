@@ -1,24 +1,28 @@
 -- The converse of `sound`: a sheet is accepted where all is so that the checks look for.
 use Prim.Native.Nat.{ℕ}
-use mathlib.Core.Bool.{true, not, _||_, and-eq-true-iff}
+use mathlib.Core.Bool.{Bool, true, false, not, _||_, and-eq-true-iff}
 use mathlib.Core.List.{List}
 use mathlib.Core.Logic.{_⊎_, inl, inr}
-use mathlib.Core.Path.{_≡_, ap}
+use mathlib.Core.Path.{_≡_, refl, ap}
 use native.Mathlib.Omega.{arith}
 use lib.Dec.{eqb}
 use borrow.Author.Tests.{le-ltb, le-leb, eq-eqb}
 use Rattle.sheet.specs.declared.Verdict.the-variants.{Passes}
-use Rattle.sheet.specs.Format.{sameSign, apartSign}
-use Rattle.sheet.specs.Checks.{check1, check2, check3, check4, check5, check6, check7, firstRefusal, wellFormed, sheetChecks, sheetVerdict, Accepted}
+use Rattle.sheet.specs.Format.{sameSign, apartSign, vacant}
+use Rattle.sheet.specs.Checks.{check1, check2, check3, check4, check5, check17And6, check7, firstRefusal, wellFormed, sheetChecks, sheetVerdict, Accepted}
 use Rattle.sheet.proofs.Verdicts.{passes-orElse, passes-refusesIf, passes-lowest}
 use Rattle.sheet.proofs.Accepted.{lot-in, SoundRecord, Sound, header-whole}
 
 -- ---- from facts to tests
 
--- Of a sign, of a record.
+-- Of a sign, of a record that may be vacant, of one that isn't.
 sign-passes : (sign : ℕ) → (sign ≡ sameSign) ⊎ (sign ≡ apartSign) → (eqb sign sameSign || eqb sign apartSign) ≡ true
 sign-passes sign (inl e) = rw e
 sign-passes sign (inr e) = rw e
+
+vacant-or : (v : Bool) {b : Bool} → (v ≡ false → b ≡ true) → (v || b) ≡ true
+vacant-or true other = refl
+vacant-or false other = other refl
 
 record-passes : {s : List ℕ} {r : ℕ} → SoundRecord s r → wellFormed s r ≡ true
 unfolding wellFormed
@@ -58,15 +62,15 @@ module _ (s : List ℕ) (h : Sound s) where
 
   five-passes : check5 s ≡ Passes
   unfolding check5
-  five-passes = passes-lowest 5 _ _ 1 (λ r low high. ap not (record-passes (h .records r low (omega arith))))
+  five-passes = passes-lowest 5 _ _ 1 (λ r low high. ap not (vacant-or (vacant s r) (λ f. record-passes (h .records r low (omega arith) f))))
 
-  six-passes : check6 s ≡ Passes
-  unfolding check6
+  six-passes : check17And6 s ≡ Passes
+  unfolding check17And6
   six-passes = rw (h .walk)
 
   seven-passes : check7 s ≡ Passes
   unfolding check7
-  seven-passes = rw (h .walk) (passes-lowest 7 _ _ 1 (λ r low high. ap not (h .every r low (omega arith))))
+  seven-passes = rw (h .walk) (passes-lowest 7 _ _ 1 (λ r low high. ap not (vacant-or (vacant s r) (h .every r low (omega arith)))))
 
   -- So the sheet is accepted.
   pub accepted : Accepted s

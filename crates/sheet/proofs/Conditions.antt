@@ -2,19 +2,20 @@
 use Prim.Native.Nat.{ℕ, zero, suc, _+_, _≤_, _<_}
 use mathlib.Core.Bool.{Bool, true, false, cond}
 use mathlib.Core.List.{List, [], _∷_, map, flatten, map-append}
-use mathlib.Core.Path.{_≡_, refl, sym, _∙_}
+use mathlib.Core.Path.{_≡_, refl, sym, ap, _∙_}
 use native.Mathlib.Omega.{arith}
 use lib.Dec.{eqb}
 use lib.ListN.{length, getD, drop, length-map, drop-of-length-le}
 use lib.Seq.{drop-cons}
-use Rattle.sheet.specs.Format.{lotCount, conditionCount, recordCount, headAt, signAt, firstLotAt, secondLotAt, nextAt}
+use Rattle.sheet.specs.Format.{lotCount, conditionCount, recordCount, headAt, signAt, firstLotAt, secondLotAt, nextAt, filledCount}
 use Rattle.sheet.specs.Checks.{Accepted}
 use Rattle.sheet.specs.Conditions.{same, apart, InLots, TermIn, termAt, chain, recordsFrom, termsFrom, countUp, conditionAt, conditions}
 use Rattle.sheet.proofs.Ranges.{length-along, getD-along, all-along}
 use Rattle.buffers.specs.Lists.{All}
+use Rattle.sheet.specs.Inner.{OnChain}
 use Rattle.sheet.proofs.Accepted.{SoundRecord, sound}
-use Rattle.sheet.proofs.Reached.{linked}
-use Rattle.sheet.proofs.Records.{allRecords, records-length}
+use Rattle.sheet.proofs.ChainEnds.{terms-end, terms-step, on-sound, head-on, next-on}
+use Rattle.sheet.proofs.Records.{allRecords, filled-most, records-length}
 
 -- ---- the list of conditions
 
@@ -42,6 +43,10 @@ module _ (s : List ℕ) where
   pub conditions-end : (c : ℕ) → conditionCount s ≤ c → drop c (conditions s) ≡ []
   conditions-end c h = drop-of-length-le (conditions s) {i = c} (omega (arith, conditions-length))
 
+  -- A condition whose head is zero, a withdrawn one, has no term.
+  pub withdrawn-empty : (c : ℕ) → headAt s c ≡ 0 → conditionAt s c ≡ []
+  withdrawn-empty c e = ap (termsFrom s) e ∙ terms-end s
+
   -- Their terms are those of the records of all chains.
   pub terms-all : flatten (conditions s) ≡ map (termAt s) (allRecords s)
   unfolding conditions termsFrom
@@ -50,40 +55,50 @@ module _ (s : List ℕ) where
 -- ---- the terms of an accepted sheet
 
 module _ (s : List ℕ) (ok : Accepted s) where
-  -- There are k terms, since each record lies on exactly one chain, once;
-  pub terms-count : length (flatten (conditions s)) ≡ recordCount s
+  -- There are as many terms as records that aren't vacant, since each of these lies on exactly one chain, once;
+  pub terms-count : length (flatten (conditions s)) ≡ filledCount s
   terms-count = rw (terms-all s) (length-map (allRecords s) (termAt s) ∙ records-length s ok)
 
   -- so at most k, which is all that most laws need.
   pub terms-length : length (flatten (conditions s)) ≤ recordCount s
-  terms-length = omega (arith, terms-count)
+  terms-length = omega (arith, terms-count, filled-most s (recordCount s) 1)
+
+  -- No condition but the withdrawn ones has no term.
+  pub empty-withdrawn : (c : ℕ) → 1 ≤ c → c ≤ conditionCount s → conditionAt s c ≡ [] → headAt s c ≡ 0
+  empty-withdrawn c low high none = go (headAt s c) refl
+    where
+      go : (h : ℕ) → headAt s c ≡ h → h ≡ 0
+      go zero e = refl
+      go (suc h) e =
+          let step = terms-step s ok (suc h) (omega arith) (omega (arith, sound s ok .heads c low high)) in
+          absurd (omega (arith, ap length (sym none ∙ ap (termsFrom s) e ∙ step)))
 
   -- The term of a record names lots of the sheet;
-  pub term-in : (r : ℕ) → 1 ≤ r → r ≤ recordCount s → TermIn (lotCount s) (termAt s r)
-  term-in r low high = go (eqb (signAt s r) 1) (fields .first, fields .second)
+  pub term-in : (r : ℕ) → 1 ≤ r → OnChain s r → TermIn (lotCount s) (termAt s r)
+  term-in r low on = go (eqb (signAt s r) 1) (fields .first, fields .second)
     where
       fields : SoundRecord s r
-      fields = sound s ok .records r low high
+      fields = on-sound s ok r low on
 
       go : (b : Bool) → InLots (lotCount s) (firstLotAt s r) × InLots (lotCount s) (secondLotAt s r)
           → TermIn (lotCount s) (cond b (same (firstLotAt s r) (secondLotAt s r)) (apart (firstLotAt s r) (secondLotAt s r)))
       go true both = both
       go false both = both
 
-  chain-in : (fuel r : ℕ) → r ≤ recordCount s → All (TermIn (lotCount s)) (map (termAt s) (chain s fuel r))
+  chain-in : (fuel r : ℕ) → OnChain s r → All (TermIn (lotCount s)) (map (termAt s) (chain s fuel r))
   unfolding chain
-  chain-in zero r high = tt
-  chain-in (suc fuel) zero high = tt
-  chain-in (suc fuel) (suc r) high = (term-in (suc r) (omega arith) high, chain-in fuel (nextAt s (suc r)) (linked s ok (suc r) (omega arith) high))
+  chain-in zero r on = tt
+  chain-in (suc fuel) zero on = tt
+  chain-in (suc fuel) (suc r) on = (term-in (suc r) (omega arith) on, chain-in fuel (nextAt s (suc r)) (next-on s ok (suc r) (omega arith) on))
 
   -- so do those of a chain,
-  pub terms-in : (r : ℕ) → r ≤ recordCount s → All (TermIn (lotCount s)) (termsFrom s r)
+  pub terms-in : (r : ℕ) → OnChain s r → All (TermIn (lotCount s)) (termsFrom s r)
   unfolding termsFrom recordsFrom
-  terms-in r high = chain-in (recordCount s) r high
+  terms-in r on = chain-in (recordCount s) r on
 
   -- and those of all conditions.
   pub conditions-in : All (All (TermIn (lotCount s))) (conditions s)
   unfolding conditions
   conditions-in =
       all-along (conditionAt s) (All (TermIn (lotCount s))) (conditionCount s) 1
-      (λ c low high. terms-in (headAt s c) (sound s ok .heads c low (omega arith)))
+      (λ c low high. terms-in (headAt s c) (head-on s ok c low (omega arith)))

@@ -4,13 +4,13 @@ use mathlib.Core.Bool.{Bool, true, false, _||_, false≢true}
 use mathlib.Core.List.{List, [], _∷_}
 use mathlib.Core.Path.{_≡_, refl}
 use native.Mathlib.Omega.{arith}
-use lib.Dec.{eqb, leb}
+use lib.Dec.{eqb}
 use lib.ListN.{length}
-use borrow.Author.Tests.{eqb-true, leb-true, leb-false}
+use borrow.Author.Tests.{eqb-true}
 use Rattle.sheet.specs.Checks.{member}
 use Rattle.sheet.specs.Conditions.{countUp}
 use Rattle.sheet.proofs.Times.{bit, times, member-times, times-member, absent-times, no-longer}
-use Rattle.sheet.proofs.Ranges.{length-countUp, times-range, range-times}
+use Rattle.sheet.proofs.Ranges.{length-countUp, range-times}
 
 -- The numbers xs are distinct, and all of them from 1 to k.
 pub record Distinct (k : ℕ) (xs : List ℕ) : Type 0 where
@@ -40,20 +40,10 @@ pub distinct-part : {k : ℕ} {xs ys : List ℕ} → ((x : ℕ) → times x xs �
 distinct-part {xs} {ys} h d =
     record { once = λ x. omega (arith, h x, d .once x); range = λ x e. d .range x (times-member x ys (omega (arith, h x, member-times x xs e))) }
 
--- Distinct numbers from 1 to k are at most k,
+-- Distinct numbers from 1 to k are at most k.
 pub distinct-length : {k : ℕ} {xs : List ℕ} → Distinct k xs → length xs ≤ k
 distinct-length {k} {xs} d = rw (length-countUp k 1) at (no-longer xs (countUp k 1) (λ x. go x (member x xs) refl))
   where
     go : (x : ℕ) (b : Bool) → member x xs ≡ b → times x xs ≤ times x (countUp k 1)
     go x true e = let (low, high) = d .range x e in omega (arith, d .once x, range-times x k 1 low (omega arith))
     go x false e = omega (arith, absent-times x xs e)
-
--- and numbers that leave none of 1 to k out are at least k.
-pub covering-length : (k : ℕ) (xs : List ℕ) → ((x : ℕ) → 1 ≤ x → x ≤ k → member x xs ≡ true) → k ≤ length xs
-covering-length k xs h = rw (length-countUp k 1) at (no-longer (countUp k 1) xs (λ x. go x (leb 1 (times x (countUp k 1))) refl))
-  where
-    go : (x : ℕ) (b : Bool) → leb 1 (times x (countUp k 1)) ≡ b → times x (countUp k 1) ≤ times x xs
-    go x true e =
-        let (low, high) = times-range x k 1 (leb-true 1 _ e) in
-        omega (arith, range-times x k 1 low high, member-times x xs (h x low (omega arith)))
-    go x false e = omega (arith, leb-false 1 (times x (countUp k 1)) e)

@@ -5,6 +5,7 @@ pub mod Lengths
 pub mod Readings
 pub mod Loops
 pub mod Times
+pub mod Vacant
 pub mod Ranges
 pub mod Distinct
 pub mod Accepted

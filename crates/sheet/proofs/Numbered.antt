@@ -1,6 +1,6 @@
 -- The numbers of the checks: every check but that of a full store has a number of at least 1 that is not 9. So 0 tells an answer, and 9 a full store.
 use Prim.Native.Nat.{ℕ, zero, suc, _≤_}
-use mathlib.Core.Bool.{Bool, true, false, not}
+use mathlib.Core.Bool.{Bool, true, false, not, _||_}
 use mathlib.Core.List.{List}
 use mathlib.Core.Logic.{_≢_}
 use mathlib.Core.Path.{_≡_}
@@ -9,8 +9,8 @@ use lib.Dec.{ltb, eqb}
 use lib.ListN.{length}
 use Rattle.sheet.specs.declared.Verdict.{Verdict}
 use Rattle.sheet.specs.declared.Verdict.the-variants.{Passes, Refuses}
-use Rattle.sheet.specs.Format.{mostLots, mostConditions, mostRecords, headerLength, lotCount, conditionCount, recordCount, sheetLength, headAt}
-use Rattle.sheet.specs.Checks.{wellFormed, member, reachedBy, orElse, firstRefusal, refusesIf, lowestRefusal, check1, check2, check3, check4, check5, check6, check7, Walk, reached, twice, chainsVerdict, walked, sheetChecks, sheetVerdict}
+use Rattle.sheet.specs.Format.{mostLots, mostConditions, mostRecords, headerLength, lotCount, conditionCount, recordCount, sheetLength, headAt, vacant}
+use Rattle.sheet.specs.Checks.{wellFormed, member, reachedBy, orElse, firstRefusal, refusesIf, lowestRefusal, check1, check2, check3, check4, check5, check17And6, check7, Walk, reached, twice, intoVacant, chainsVerdict, walked, sheetChecks, sheetVerdict}
 
 -- A number that such a check has.
 abbrev pub Number : ℕ → Type 0
@@ -42,6 +42,7 @@ lowest check n fails (suc count) from =
 chains : (w : Walk) → Numbered (chainsVerdict w)
 chains (reached seen) = tt
 chains (twice r) = (omega arith, λ e. omega arith)
+chains (intoVacant r) = (omega arith, λ e. omega arith)
 
 -- ---- the sheet's checks
 
@@ -67,15 +68,15 @@ module _ (s : List ℕ) where
 
   five : Numbered (check5 s)
   unfolding check5
-  five = lowest 5 (omega arith, λ e. omega arith) (λ r. not (wellFormed s r)) (recordCount s) 1
+  five = lowest 5 (omega arith, λ e. omega arith) (λ r. not (vacant s r || wellFormed s r)) (recordCount s) 1
 
-  six : Numbered (check6 s)
-  unfolding check6
+  six : Numbered (check17And6 s)
+  unfolding check17And6
   six = chains (walked s)
 
   seven : Numbered (check7 s)
   unfolding check7
-  seven = lowest 7 (omega arith, λ e. omega arith) (λ r. not (member r (reachedBy (walked s)))) (recordCount s) 1
+  seven = lowest 7 (omega arith, λ e. omega arith) (λ r. not (vacant s r || member r (reachedBy (walked s)))) (recordCount s) 1
 
   pub sheet-numbered : Numbered (sheetVerdict s)
   unfolding sheetVerdict sheetChecks firstRefusal
@@ -85,5 +86,5 @@ module _ (s : List ℕ) where
       (either (check3 s) _ three
       (either (check4 s) _ four
       (either (check5 s) _ five
-      (either (check6 s) _ six
+      (either (check17And6 s) _ six
       (either (check7 s) Passes seven tt))))))

@@ -1,6 +1,6 @@
--- The walk's loops, along one chain and over all conditions; and what checks 6 and 7 make of the walk.
+-- The walk's loops, along one chain and over all conditions; and what checks 17, 6 and 7 make of the walk.
 use Prim.Native.Nat.{ℕ, suc, _+_, _-_, _≤_, _<_}
-use mathlib.Core.Bool.{true, false, not}
+use mathlib.Core.Bool.{Bool, true, false, not, _||_}
 use mathlib.Core.List.{List, [], _∷_}
 use mathlib.Core.Path.{_≡_, refl, sym, ap, _∙_}
 use native.Mathlib.Numerals.{add-one}
@@ -9,11 +9,11 @@ use lib.ListN.{length, getD, set, length-set}
 use borrow.Author.Tests.{eq-eqb, ne-eqb}
 use Rattle.sheet.specs.declared.Verdict.the-variants.{Passes, Refuses}
 use Rattle.sheet.specs.declared.Verdict.{Verdict}
-use Rattle.sheet.specs.Format.{conditionCount, recordCount, headAt, nextAt}
-use Rattle.sheet.specs.Checks.{Walk, reached, twice, member, walkChain, walkChains, walked, chainsVerdict, reachedBy, orElse, lowestRefusal, check6, check7}
+use Rattle.sheet.specs.Format.{conditionCount, recordCount, headAt, nextAt, vacant}
+use Rattle.sheet.specs.Checks.{Walk, reached, twice, intoVacant, member, walkChain, walkChains, walked, chainsVerdict, reachedBy, orElse, lowestRefusal, check17And6, check7}
 use Rattle.sheet.specs.Inner.{Flags, isFlagged, oneChain, WalkedTo, unflaggedVerdict}
 use Rattle.sheet.proofs.Verdicts.{not-both, lowest-agrees}
-use Rattle.sheet.proofs.Walks.{walk-end, walk-twice, walk-more, chains-twice}
+use Rattle.sheet.proofs.Walks.{walk-end, walk-vacant, walk-twice, walk-more, chains-twice, chains-vacant}
 use Rattle.sheet.proofs.Flags.{unflagged, unflagged-le, unflagged-falls, flag}
 
 -- ---- along one chain
@@ -57,18 +57,23 @@ module _ {s flags₀ : List ℕ} {head : ℕ} {flags : List ℕ} {r : ℕ} (w : 
     among : r ≤ length flags
     among = omega (arith, w .room, w .within)
 
-    pub hit : getD flags (r - 1) 0 ≡ 1 → (seen : List ℕ) → Flags flags₀ seen → WalkedTo (oneChain s seen head) (Refuses 6 r) flags
-    hit e seen stand =
+    pub nothing : vacant s r ≡ true → (seen : List ℕ) → Flags flags₀ seen → WalkedTo (oneChain s seen head) (Refuses 17 r) flags
+    nothing e seen stand =
+        let a = w .ahead seen stand in
+        rw (a .rest ∙ walk-vacant s (a .fuel) (a .seen) r (omega arith) e)
+
+    pub hit : vacant s r ≡ false → getD flags (r - 1) 0 ≡ 1 → (seen : List ℕ) → Flags flags₀ seen → WalkedTo (oneChain s seen head) (Refuses 6 r) flags
+    hit filled e seen stand =
         let a = w .ahead seen stand in
         let known : member r (a .seen) ≡ true = sym (a .stand .stand r (omega arith) among) ∙ eq-eqb _ _ e in
-        rw (a .rest ∙ walk-twice s (a .fuel) (a .seen) r (omega arith) known)
+        rw (a .rest ∙ walk-twice s (a .fuel) (a .seen) r (omega arith) filled known)
 
     module _ (f : getD flags (r - 1) 0 ≡ 1 → ⊥) where
       pub fewer : unflagged (set flags (r - 1) 1) < unflagged flags
       fewer = unflagged-falls flags (r - 1) (omega (arith, among)) f
 
-      pub more : nextAt s r ≤ recordCount s → Walking s flags₀ head (set flags (r - 1) 1) (nextAt s r)
-      more linked =
+      pub more : vacant s r ≡ false → nextAt s r ≤ recordCount s → Walking s flags₀ head (set flags (r - 1) 1) (nextAt s r)
+      more filled linked =
           record {
             room = length-set flags (r - 1) 1 ∙ w .room;
             within = linked;
@@ -80,7 +85,7 @@ module _ {s flags₀ : List ℕ} {head : ℕ} {flags : List ℕ} {r : ℕ} (w : 
                   seen = r ∷ a .seen;
                   stand = flag (omega arith) among (a .stand);
                   enough = omega (arith, fewer, a .enough);
-                  rest = a .rest ∙ walk-more s (a .fuel) (a .seen) r (omega arith) fresh
+                  rest = a .rest ∙ walk-more s (a .fuel) (a .seen) r (omega arith) filled fresh
                       ∙ ap (λ (n : ℕ). walkChain s n (r ∷ a .seen) (nextAt s r)) (omega (arith, fewer, a .enough));
                 };
           }
@@ -131,6 +136,7 @@ module _ {s flags : List ℕ} {c : ℕ} (i : Chaining s flags c) where
         go : (w : Walk) → walked s ≡ walkChains s (conditionCount s - c) (c + 1) w → WalkedTo w v after → WalkedTo (walked s) v after
         go (reached seen) e same = absurd (not-both (same .0) told)
         go (twice r) e same = rw (e, chains-twice) same
+        go (intoVacant r) e same = rw (e, chains-vacant) same
 
     pub chain-passed : {v : Verdict} → v ≡ Passes → {after : List ℕ} → length after ≡ recordCount s
         → WalkedTo (oneChain s (i .seen) (headAt s c)) v after → Chaining s after (c + 1)
@@ -147,29 +153,32 @@ module _ {s flags : List ℕ} {c : ℕ} (i : Chaining s flags c) where
               rest = e ∙ ap (λ (n : ℕ). walkChains s n (c + 1) (reached seen)) (omega arith);
             }
         go (twice r) e same = absurd (not-both told same)
+        go (intoVacant r) e same = absurd (not-both told same)
 
--- ---- checks 6 and 7, from what the walk along all chains says
+-- ---- checks 17, 6 and 7, from what the walk along all chains says
 
 module _ (s : List ℕ) {v : Verdict} where
   pub walk-refused : {check place : ℕ} → v ≡ Refuses check place → (flags : List ℕ) → WalkedTo (walked s) v flags
-      → v ≡ orElse (check6 s) (check7 s)
-  unfolding check6
+      → v ≡ orElse (check17And6 s) (check7 s)
+  unfolding check17And6
   walk-refused {check} {place} told flags = go (walked s) refl
     where
       go : (w : Walk) → walked s ≡ w → WalkedTo w v flags → v ≡ orElse (chainsVerdict (walked s)) (check7 s)
       go (reached seen) e same = absurd (not-both (same .0) told)
       go (twice r) e same = rw e same
+      go (intoVacant r) e same = rw e same
 
   pub walk-passed : v ≡ Passes → (flags : List ℕ) → length flags ≡ recordCount s → WalkedTo (walked s) v flags
-      → unflaggedVerdict flags ≡ orElse (check6 s) (check7 s)
-  unfolding check6 check7 unflaggedVerdict
+      → unflaggedVerdict s flags ≡ orElse (check17And6 s) (check7 s)
+  unfolding check17And6 check7 unflaggedVerdict
   walk-passed told flags room = go (walked s) refl
     where
       go : (w : Walk) → walked s ≡ w → WalkedTo w v flags
-          → unflaggedVerdict flags
-          ≡ orElse (chainsVerdict (walked s)) (lowestRefusal 7 (λ r. not (member r (reachedBy (walked s)))) (recordCount s) 1)
+          → unflaggedVerdict s flags
+          ≡ orElse (chainsVerdict (walked s)) (lowestRefusal 7 (λ r. not (vacant s r || member r (reachedBy (walked s)))) (recordCount s) 1)
       go (reached seen) e same =
-          rw (e, room)
-          (lowest-agrees 7 (λ r. not (isFlagged flags r)) (λ r. not (member r seen)) (recordCount s) 1
-          (λ r low high. ap not (same .1 .stand r low (omega arith))))
+          rw e
+          (lowest-agrees 7 (λ r. not (vacant s r || isFlagged flags r)) (λ r. not (vacant s r || member r seen)) (recordCount s) 1
+          (λ r low high. ap (λ (b : Bool). not (vacant s r || b)) (same .1 .stand r low (omega arith))))
       go (twice r) e same = absurd (not-both told same)
+      go (intoVacant r) e same = absurd (not-both told same)

@@ -2,16 +2,48 @@
 use Prim.Native.Nat.{ℕ, zero, suc, _+_, _≤_, _<_}
 use mathlib.Core.Bool.{Bool, true, false, cond}
 use mathlib.Core.List.{List, _∷_}
-use mathlib.Core.Path.{_≡_, refl}
+use mathlib.Core.Logic.{_⊎_, inl, inr}
+use mathlib.Core.Path.{_≡_, refl, ap}
 use native.Mathlib.Omega.{arith}
+use lib.Dec.{eqb}
 use lib.ListN.{length}
-use Rattle.sheet.specs.Format.{recordCount, nextAt}
-use Rattle.sheet.specs.Checks.{reached, twice, member, walkChain, walkChains}
+use borrow.Author.Tests.{eq-eqb, ne-eqb}
+use Rattle.sheet.specs.declared.Verdict.the-variants.{Passes}
+use Rattle.sheet.specs.Format.{recordCount, sameSign, apartSign, signAt, nextAt, vacant}
+use Rattle.sheet.specs.Checks.{check5, reached, twice, intoVacant, member, walkChain, walkChains}
 use Rattle.sheet.proofs.Distinct.{Distinct, distinct-cons, distinct-length}
+use Rattle.sheet.proofs.Vacant.{vacant-blank}
+use Rattle.sheet.proofs.Accepted.{SoundRecord, records-found}
 
 -- Every record's next is a record or the zero.
 abbrev pub Linked : List ℕ → Type 0
 Linked s = (r : ℕ) → 1 ≤ r → r ≤ recordCount s → nextAt s r ≤ recordCount s
+
+-- It is where check 5 passes: a vacant record's is zero.
+pub vacant-or-linked : (s : List ℕ) (r : ℕ) → (vacant s r ≡ false → SoundRecord s r) → nextAt s r ≤ recordCount s
+vacant-or-linked s r formed = go (vacant s r) refl
+  where
+    go : (b : Bool) → vacant s r ≡ b → nextAt s r ≤ recordCount s
+    go true e = omega (arith, vacant-blank s r e .next)
+    go false e = formed e .next
+
+pub nexts-found : (s : List ℕ) → check5 s ≡ Passes → Linked s
+nexts-found s five r low high = vacant-or-linked s r (records-found s five r low high)
+
+-- There the sign tells whether a record is vacant.
+pub vacant-or-signed : (s : List ℕ) (r : ℕ) → (vacant s r ≡ false → SoundRecord s r) → eqb (signAt s r) 0 ≡ vacant s r
+vacant-or-signed s r formed = go (vacant s r) refl
+  where
+    signed : (signAt s r ≡ sameSign) ⊎ (signAt s r ≡ apartSign) → signAt s r ≡ 0 → ⊥
+    signed (inl e) z = omega arith
+    signed (inr e) z = omega arith
+
+    go : (b : Bool) → vacant s r ≡ b → eqb (signAt s r) 0 ≡ b
+    go true e = eq-eqb _ _ (vacant-blank s r e .sign)
+    go false e = ne-eqb _ _ (signed (formed e .sign))
+
+pub signs-tell : (s : List ℕ) → check5 s ≡ Passes → (r : ℕ) → 1 ≤ r → r ≤ recordCount s → eqb (signAt s r) 0 ≡ vacant s r
+signs-tell s five r low high = vacant-or-signed s r (records-found s five r low high)
 
 -- ---- one chain
 
@@ -22,18 +54,24 @@ module _ (s : List ℕ) where
   walk-end zero seen = refl
   walk-end (suc fuel) seen = refl
 
-  -- At a record that was reached before.
-  pub walk-twice : (fuel : ℕ) (seen : List ℕ) (r : ℕ) → 1 ≤ r → member r seen ≡ true → walkChain s (suc fuel) seen r ≡ twice r
+  -- At a vacant record.
+  pub walk-vacant : (fuel : ℕ) (seen : List ℕ) (r : ℕ) → 1 ≤ r → vacant s r ≡ true → walkChain s (suc fuel) seen r ≡ intoVacant r
   unfolding walkChain
-  walk-twice fuel seen zero low there = absurd (omega arith)
-  walk-twice fuel seen (suc r) low there = rw there
+  walk-vacant fuel seen zero low empty = absurd (omega arith)
+  walk-vacant fuel seen (suc r) low empty = rw empty
 
-  -- At a record that was not reached before.
-  pub walk-more : (fuel : ℕ) (seen : List ℕ) (r : ℕ) → 1 ≤ r → member r seen ≡ false
+  -- At another that was reached before.
+  pub walk-twice : (fuel : ℕ) (seen : List ℕ) (r : ℕ) → 1 ≤ r → vacant s r ≡ false → member r seen ≡ true → walkChain s (suc fuel) seen r ≡ twice r
+  unfolding walkChain
+  walk-twice fuel seen zero low filled there = absurd (omega arith)
+  walk-twice fuel seen (suc r) low filled there = rw (filled, there)
+
+  -- At another that was not reached before.
+  pub walk-more : (fuel : ℕ) (seen : List ℕ) (r : ℕ) → 1 ≤ r → vacant s r ≡ false → member r seen ≡ false
       → walkChain s (suc fuel) seen r ≡ walkChain s fuel (r ∷ seen) (nextAt s r)
   unfolding walkChain
-  walk-more fuel seen zero low new = absurd (omega arith)
-  walk-more fuel seen (suc r) low new = rw new
+  walk-more fuel seen zero low filled new = absurd (omega arith)
+  walk-more fuel seen (suc r) low filled new = rw (filled, new)
 
   module _ (linked : Linked s) where
     -- Fuel past the records that were not yet reached is enough.
@@ -49,9 +87,10 @@ module _ (s : List ℕ) where
       where
         go : (b : Bool) → member (suc r) seen ≡ b
             → (member (suc r) seen ≡ false → walkChain s fuel (suc r ∷ seen) (nextAt s (suc r)) ≡ walkChain s more (suc r ∷ seen) (nextAt s (suc r)))
-            → cond b (twice (suc r)) (walkChain s fuel (suc r ∷ seen) (nextAt s (suc r))) ≡ cond b (twice (suc r)) (walkChain s more (suc r ∷ seen) (nextAt s (suc r)))
+            → cond (vacant s (suc r)) (intoVacant (suc r)) (cond b (twice (suc r)) (walkChain s fuel (suc r ∷ seen) (nextAt s (suc r))))
+            ≡ cond (vacant s (suc r)) (intoVacant (suc r)) (cond b (twice (suc r)) (walkChain s more (suc r ∷ seen) (nextAt s (suc r))))
         go true e ih = refl
-        go false e ih = ih e
+        go false e ih = ap (cond (vacant s (suc r)) (intoVacant (suc r))) (ih e)
 
     -- Any fuel above k gives the same walk.
     pub walk-fuel : (fuel : ℕ) {seen : List ℕ} → Distinct (recordCount s) seen → (r : ℕ) → r ≤ recordCount s → recordCount s < fuel
@@ -61,8 +100,14 @@ module _ (s : List ℕ) where
 -- ---- chain after chain
 
 module _ (s : List ℕ) where
-  -- After a record was reached a second time.
+  -- After a record was reached a second time,
   pub chains-twice : (count c r : ℕ) → walkChains s count c (twice r) ≡ twice r
   unfolding walkChains
   chains-twice zero c r = refl
   chains-twice (suc count) c r = refl
+
+  -- and after a vacant one.
+  pub chains-vacant : (count c r : ℕ) → walkChains s count c (intoVacant r) ≡ intoVacant r
+  unfolding walkChains
+  chains-vacant zero c r = refl
+  chains-vacant (suc count) c r = refl

@@ -14,6 +14,11 @@ pub data Answer : Type 0 where
   refused : ℕ → ℕ → Answer
   answered : ℕ → ℕ → ℕ → Answer
 
+-- An answer with this third value.
+abbrev pub withThird : ℕ → Answer → Answer
+withThird k (refused check place) = refused check place
+withThird k (answered first second third) = answered first second k
+
 -- A verdict's refusal; where it passes, the answer that follows.
 abbrev pub answerOf : Verdict → Answer → Answer
 answerOf Passes answer = answer

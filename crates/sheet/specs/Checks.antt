@@ -1,4 +1,4 @@
--- Checks 1 to 7, in the order of document 01's table, "Where each check sits".
+-- Checks 1 to 7, in the order of document 01's table, "Where each check sits", and check 17 of document 02.
 use Prim.Native.Nat.{ℕ, zero, suc}
 use mathlib.Core.Bool.{Bool, true, false, cond, not, _&&_, _||_}
 use mathlib.Core.List.{List, [], _∷_, _++_}
@@ -7,7 +7,7 @@ use lib.Dec.{leb, ltb, eqb}
 use lib.ListN.{length}
 use Rattle.sheet.specs.declared.Verdict.{Verdict}
 use Rattle.sheet.specs.declared.Verdict.the-variants.{Passes, Refuses}
-use Rattle.sheet.specs.Format.{mostLots, mostConditions, mostRecords, lowestLot, headerLength, lotCount, conditionCount, recordCount, sheetLength, headAt, sameSign, apartSign, signAt, spareAt, firstLotAt, secondLotAt, nextAt}
+use Rattle.sheet.specs.Format.{mostLots, mostConditions, mostRecords, lowestLot, headerLength, lotCount, conditionCount, recordCount, sheetLength, headAt, sameSign, apartSign, signAt, spareAt, firstLotAt, secondLotAt, nextAt, vacant}
 
 -- ---- the first check that fails
 
@@ -68,35 +68,41 @@ wellFormed s r =
     && (lotInRange (lotCount s) (secondLotAt s r)
     && leb (nextAt s r) (recordCount s))))
 
--- "records, rising | 5 | sign, spare or lot out of range, next above k | record"
+-- "records, rising | 5 | sign, spare or lot out of range, next above k | record". "Checks 5 and 7 pass over vacant records" (document 02).
 unfoldable pub check5 : List ℕ → Verdict
-check5 s = lowestRefusal 5 (λ r. not (wellFormed s r)) (recordCount s) 1
+check5 s = lowestRefusal 5 (λ r. not (vacant s r || wellFormed s r)) (recordCount s) 1
 
--- ---- chains: "Each record lies on exactly one chain, once." Check 6 refuses a record that lies there twice, check 7 one that lies on none.
+-- ---- chains: "Each record lies on exactly one chain, once.", but for the vacant ones, which lie on none. Check 17 refuses a vacant record that lies on one,
+-- check 6 a record that lies there twice, check 7 one that isn't vacant and lies on none.
 
--- A walk along chains: the records reached so far, the latest first; or the record that was reached a second time.
+-- A walk along chains: the records reached so far, the latest first; or the record that was reached a second time; or the vacant record that was reached.
 pub data Walk : Type 0 where
   reached : List ℕ → Walk
   twice : ℕ → Walk
+  intoVacant : ℕ → Walk
 
 -- Whether a number is in a list.
 unfoldable pub member : ℕ → List ℕ → Bool
 member x [] = false
 member x (y ∷ ys) = eqb x y || member x ys
 
--- "A chain is walked from its head, term by term, to the zero.": on from record r, after the records `seen`. It stops at a record
--- that was reached before. Where checks 4 and 5 pass, it reaches no record but 1 to k, and so makes at most one step more than there are records:
--- `fuel` above k is enough, and never decides. Where they don't, nobody sees this walk.
+-- "A chain is walked from its head, term by term, to the zero.": on from record r, after the records `seen`. It stops at a vacant record, by "17, a chain
+-- reaches a vacant record, tested before 6 at each record" (document 02), and at one that was reached before, by 6. Where checks 4 and 5 pass, it reaches no
+-- record but 1 to k, and so makes at most one step more than there are records: `fuel` above k is enough, and never decides. Where they don't, nobody sees this
+-- walk.
 unfoldable pub walkChain : List ℕ → ℕ → List ℕ → ℕ → Walk
 walkChain s zero seen r = reached seen
 walkChain s (suc fuel) seen zero = reached seen
 walkChain s (suc fuel) seen (suc r) =
-    cond (member (suc r) seen) (twice (suc r)) (walkChain s fuel (suc r ∷ seen) (nextAt s (suc r)))
+    cond (vacant s (suc r)) (intoVacant (suc r))
+    (cond (member (suc r) seen) (twice (suc r))
+    (walkChain s fuel (suc r ∷ seen) (nextAt s (suc r))))
 
 -- "chains, by condition": `count` chains, from that of condition c on.
 unfoldable pub walkChains : List ℕ → ℕ → ℕ → Walk → Walk
 walkChains s zero c walk = walk
 walkChains s (suc count) c (twice r) = twice r
+walkChains s (suc count) c (intoVacant r) = intoVacant r
 walkChains s (suc count) c (reached seen) = walkChains s count (suc c) (walkChain s (suc (recordCount s)) seen (headAt s c))
 
 -- All chains of a sheet.
@@ -106,18 +112,21 @@ walked s = walkChains s (conditionCount s) 1 (reached [])
 abbrev pub chainsVerdict : Walk → Verdict
 chainsVerdict (reached seen) = Passes
 chainsVerdict (twice r) = Refuses 6 r
+chainsVerdict (intoVacant r) = Refuses 17 r
 
--- "chains, by condition | 6 | a record reached a second time | record"
-unfoldable pub check6 : List ℕ → Verdict
-check6 s = chainsVerdict (walked s)
+-- "chains, by condition | 6 | a record reached a second time | record", and at each record before it "17, a chain reaches a vacant record .. place is the
+-- record" (document 02).
+unfoldable pub check17And6 : List ℕ → Verdict
+check17And6 s = chainsVerdict (walked s)
 
 abbrev pub reachedBy : Walk → List ℕ
 reachedBy (reached seen) = seen
 reachedBy (twice r) = []
+reachedBy (intoVacant r) = []
 
--- "after the chains | 7 | a record never reached | lowest such"
+-- "after the chains | 7 | a record never reached | lowest such". "Checks 5 and 7 pass over vacant records" (document 02).
 unfoldable pub check7 : List ℕ → Verdict
-check7 s = lowestRefusal 7 (λ r. not (member r (reachedBy (walked s)))) (recordCount s) 1
+check7 s = lowestRefusal 7 (λ r. not (vacant s r || member r (reachedBy (walked s)))) (recordCount s) 1
 
 -- ---- the sheet's checks
 
@@ -125,13 +134,13 @@ check7 s = lowestRefusal 7 (λ r. not (member r (reachedBy (walked s)))) (record
 abbrev pub headerChecks : List ℕ → List Verdict
 headerChecks s = check1 s ∷ check2 s ∷ check3 s ∷ []
 
--- "the table's checks on its own bytes, here 1 to 7"
+-- "the table's checks on its own bytes, here 1 to 7", with 17
 unfoldable pub sheetChecks : List ℕ → List Verdict
-sheetChecks s = headerChecks s ++ check4 s ∷ check5 s ∷ check6 s ∷ check7 s ∷ []
+sheetChecks s = headerChecks s ++ check4 s ∷ check5 s ∷ check17And6 s ∷ check7 s ∷ []
 
 unfoldable pub sheetVerdict : List ℕ → Verdict
 sheetVerdict s = firstRefusal (sheetChecks s)
 
--- "A sheet is accepted when none of the table's checks on its own bytes, here 1 to 7, refuses it"
+-- "A sheet is accepted when none of the table's checks on its own bytes, here 1 to 7, refuses it"; with document 02 they are 1 to 7 and 17.
 abbrev pub Accepted : List ℕ → Type 0
 Accepted s = sheetVerdict s ≡ Passes

@@ -59,7 +59,7 @@ unfoldable pub countUp : ℕ → ℕ → List ℕ
 countUp zero from = []
 countUp (suc count) from = from ∷ countUp count (suc from)
 
--- Condition c (a clause): the list of its terms. "Zero: the condition has no term."
+-- Condition c (a clause): the list of its terms. "Zero: the condition has no term", and is withdrawn (document 02).
 abbrev pub conditionAt : List ℕ → ℕ → List Term
 conditionAt s c = termsFrom s (headAt s c)
 

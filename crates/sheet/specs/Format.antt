@@ -1,7 +1,9 @@
--- Where things stand in a sheet's bytes (document 01, "The sheet").
-use Prim.Native.Nat.{ℕ, _+_, _*_, _-_}
-use mathlib.Core.List.{List}
-use lib.ListN.{getD}
+-- Where things stand in a sheet's bytes (document 01, "The sheet"; document 02, "Striking a condition").
+use Prim.Native.Nat.{ℕ, zero, suc, _+_, _*_, _-_}
+use mathlib.Core.Bool.{Bool, true, cond, _&&_}
+use mathlib.Core.List.{List, [], _∷_}
+use lib.Dec.{eqb}
+use lib.ListN.{length, getD}
 use Rattle.buffers.specs.Bytes.{number}
 
 -- "lots n (at most 128), conditions m (at most 256), term records k (at most 1,024)"
@@ -35,7 +37,8 @@ recordCount s = number s 4
 abbrev pub sheetLength : ℕ → ℕ → ℕ
 sheetLength m k = headerLength + 2 * m + 8 * k
 
--- "m heads, two bytes each: the record number of the condition's first term." The head of condition c.
+-- "m heads, two bytes each: the record number of the condition's first term." The head of condition c. "A zero head .. means struck" (document 02): the
+-- condition is withdrawn.
 unfoldable pub headAt : List ℕ → ℕ → ℕ
 headAt s c = number s (headerLength + 2 * (c - 1))
 
@@ -65,3 +68,20 @@ secondLotAt s r = number s (recordPlace (conditionCount s) r + 4)
 
 unfoldable pub nextAt : List ℕ → ℕ → ℕ
 nextAt s r = number s (recordPlace (conditionCount s) r + 6)
+
+-- `count` bytes from place p on are zero.
+unfoldable pub zeroBytes : List ℕ → ℕ → ℕ → Bool
+zeroBytes s zero p = true
+zeroBytes s (suc count) p = eqb (getD s p 0) 0 && zeroBytes s count (suc p)
+
+-- "blanked to eight zero bytes, which makes them vacant" (document 02): record r is vacant.
+unfoldable pub vacant : List ℕ → ℕ → Bool
+vacant s r = zeroBytes s 8 (recordPlace (conditionCount s) r)
+
+-- The records that aren't vacant, of `count` from `from` on; and how many of all.
+unfoldable pub filledRecords : List ℕ → ℕ → ℕ → List ℕ
+filledRecords s zero from = []
+filledRecords s (suc count) from = cond (vacant s from) (filledRecords s count (suc from)) (from ∷ filledRecords s count (suc from))
+
+abbrev pub filledCount : List ℕ → ℕ
+filledCount s = length (filledRecords s (recordCount s) 1)

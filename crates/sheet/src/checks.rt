@@ -1,12 +1,11 @@
 // Checks 1 to 5 and 7.
 ghost use mathlib.Core.Path.{_≡_};
-ghost use mathlib.Core.Bool.{_||_};
+ghost use mathlib.Core.Bool.{not, _||_};
 ghost use Prim.Native.Nat.{_≤_};
 ghost use lib.Dec.{eqb};
-ghost use lib.ListN.{length};
-ghost use Rattle.sheet.specs.Format.{mostRecords, sameSign, apartSign};
+ghost use Rattle.sheet.specs.Format.{recordCount, sameSign, apartSign, vacant};
 ghost use Rattle.sheet.specs.Checks.{firstRefusal, headerChecks, check4, check5, wellFormed};
-ghost use Rattle.sheet.specs.Inner.{HasHeader, HasRecord, headerAt, unflaggedVerdict};
+ghost use Rattle.sheet.specs.Inner.{HasHeader, HasRecord, Flaggable, headerAt, isFlagged, unflaggedVerdict};
 use crate::APART;
 use crate::Condition;
 use crate::Header;
@@ -56,7 +55,7 @@ pub(crate) fn heads(sheet: &[u8], h: Header) -> Verdict
     Verdict::Passes
 }
 
-// Check 5: each record is well formed.
+// Check 5: each record is vacant or well formed.
 pub(crate) fn records(sheet: &[u8], h: Header) -> Verdict
     requires { ⌜ HasHeader (now sheet) h ⌝ }
     ensures { λ v. ⌜ v ≡ check5 (now (sheet .entry)) ⌝ }
@@ -64,7 +63,7 @@ pub(crate) fn records(sheet: &[u8], h: Header) -> Verdict
     let k = h.records;
     let mut r: u16 = 1;
     while r <= k {
-        if !well_formed(sheet, h, Record(r)) {
+        if !vacant_or_formed(sheet, h, Record(r)) {
             return Verdict::Refuses(5, r as u32);
         }
         r += 1;
@@ -72,16 +71,24 @@ pub(crate) fn records(sheet: &[u8], h: Header) -> Verdict
     Verdict::Passes
 }
 
-// Sign, spare, both lots and next of a record are in range.
+// A record is vacant or well formed. Most are well formed, so that is asked first.
+fn vacant_or_formed(sheet: &[u8], h: Header, r: Record) -> bool
+    requires { ⌜ (h ≡ headerAt (now sheet)) × HasRecord (now sheet) (h .conditions) (r .0) ⌝ }
+    ensures { λ b. ⌜ b ≡ (vacant (now (sheet .entry)) (r .0) || wellFormed (now (sheet .entry)) (r .0)) ⌝ }
+{
+    if well_formed(sheet, h, r) {
+        return true;
+    }
+    format::is_vacant(sheet, h.conditions, r)
+}
+
+// Sign, spare, both lots and next of a record are in range. Sign and spare are looked at as one number, which is quicker.
 fn well_formed(sheet: &[u8], h: Header, r: Record) -> bool
     requires { ⌜ (h ≡ headerAt (now sheet)) × HasRecord (now sheet) (h .conditions) (r .0) ⌝ }
     ensures { λ b. ⌜ b ≡ wellFormed (now (sheet .entry)) (r .0) ⌝ }
 {
     let t = format::term_at(sheet, h.conditions, r);
-    if !sign_known(t.sign) {
-        return false;
-    }
-    if format::spare_at(sheet, h.conditions, r) != 0 {
+    if !sign_known(format::sign_spare_at(sheet, h.conditions, r)) {
         return false;
     }
     if !in_lots(h.lots, t.a) {
@@ -93,24 +100,38 @@ fn well_formed(sheet: &[u8], h: Header, r: Record) -> bool
     t.next.0 <= h.records
 }
 
-// A sign is "same" or "apart".
-fn sign_known(sign: u8) -> bool
-    ensures { λ b. ⌜ b ≡ (eqb sign sameSign || eqb sign apartSign) ⌝ }
+// Sign and spare byte, as one number, are "same" or "apart" and 0.
+fn sign_known(x: u16) -> bool
+    ensures { λ b. ⌜ b ≡ (eqb x sameSign || eqb x apartSign) ⌝ }
 {
-    sign == SAME || sign == APART
+    x == (SAME as u16) || x == (APART as u16)
 }
 
-// Check 7: each record is flagged as reached. Flag i is that of record i + 1.
-pub(crate) fn reached(flags: &[u8]) -> Verdict
-    requires { ⌜ length (now flags) ≤ mostRecords ⌝ }
-    ensures { λ v. ⌜ v ≡ unflaggedVerdict (now (flags .entry)) ⌝ }
+// Check 7: each record is vacant or flagged as reached.
+pub(crate) fn reached(sheet: &[u8], h: Header, flags: &[u8]) -> Verdict
+    requires { ⌜ Flaggable (now sheet) h (now flags) ⌝ }
+    ensures { λ v. ⌜ v ≡ unflaggedVerdict (now (sheet .entry)) (now (flags .entry)) ⌝ }
 {
-    let mut r: usize = 1;
-    while r <= flags.len() {
-        if flags[r - 1] != 1 {
+    let k = h.records;
+    let mut r: u16 = 1;
+    while r <= k {
+        if left_out(sheet, h, flags, Record(r)) {
             return Verdict::Refuses(7, r as u32);
         }
         r += 1;
     }
     Verdict::Passes
+}
+
+// A record is neither flagged nor vacant. Flag i is that of record i + 1; check 5 has passed, so a record without a sign is vacant.
+fn left_out(sheet: &[u8], h: Header, flags: &[u8], r: Record) -> bool
+    requires { ⌜ Flaggable (now sheet) h (now flags) × (1 ≤ r .0) × (r .0 ≤ recordCount (now sheet)) ⌝ }
+    ensures { λ b. ⌜ b ≡ not (vacant (now (sheet .entry)) (r .0) || isFlagged (now (flags .entry)) (r .0)) ⌝ }
+{
+    let i = (r.0 - 1) as usize;
+    if flags[i] == 1 {
+        return false;
+    }
+    let t = format::term_at(sheet, h.conditions, r);
+    t.sign != 0
 }

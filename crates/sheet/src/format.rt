@@ -2,8 +2,8 @@
 ghost use mathlib.Core.Path.{_≡_};
 ghost use Prim.Native.Nat.{_+_, _*_, _≤_};
 ghost use lib.ListN.{length};
-ghost use Rattle.sheet.specs.Format.{recordPlace, headAt, spareAt};
-ghost use Rattle.sheet.specs.Inner.{headerAt, termRecordAt, HasRecord};
+ghost use Rattle.sheet.specs.Format.{recordPlace, headAt, spareAt, vacant};
+ghost use Rattle.sheet.specs.Inner.{headerAt, termRecordAt, signSpareAt, HasRecord};
 use crate::Condition;
 use crate::Header;
 use crate::Lot;
@@ -22,7 +22,7 @@ pub fn header_of(sheet: &[u8]) -> Header
     }
 }
 
-// The record of a condition's first term; zero: it has no term.
+// The record of a condition's first term; zero: it has no term, and is withdrawn.
 pub fn head_at(sheet: &[u8], c: Condition) -> Record
     requires { ⌜ (1 ≤ c .0) × (6 + 2 * c .0 ≤ length (now sheet)) ⌝ }
     ensures { λ r. ⌜ r .0 ≡ headAt (now (sheet .entry)) (c .0) ⌝ }
@@ -49,6 +49,15 @@ pub fn spare_at(sheet: &[u8], m: u16, r: Record) -> u8
     sheet[p + 1]
 }
 
+// The sign and the spare byte of a record, as one number.
+pub fn sign_spare_at(sheet: &[u8], m: u16, r: Record) -> u16
+    requires { ⌜ HasRecord (now sheet) m (r .0) ⌝ }
+    ensures { λ x. ⌜ x ≡ signSpareAt (now (sheet .entry)) (r .0) ⌝ }
+{
+    let p = record_place(m, r);
+    buffers::number_at(sheet, p)
+}
+
 // The term at a record.
 pub fn term_at(sheet: &[u8], m: u16, r: Record) -> Term
     requires { ⌜ HasRecord (now sheet) m (r .0) ⌝ }
@@ -61,4 +70,25 @@ pub fn term_at(sheet: &[u8], m: u16, r: Record) -> Term
         b: Lot(buffers::number_at(sheet, p + 4)),
         next: Record(buffers::number_at(sheet, p + 6)),
     }
+}
+
+// Whether a record is vacant. Its fields are all of its eight bytes.
+pub fn is_vacant(sheet: &[u8], m: u16, r: Record) -> bool
+    requires { ⌜ HasRecord (now sheet) m (r .0) ⌝ }
+    ensures { λ b. ⌜ b ≡ vacant (now (sheet .entry)) (r .0) ⌝ }
+{
+    let t = term_at(sheet, m, r);
+    if t.sign != 0 {
+        return false;
+    }
+    if spare_at(sheet, m, r) != 0 {
+        return false;
+    }
+    if t.a.0 != 0 {
+        return false;
+    }
+    if t.b.0 != 0 {
+        return false;
+    }
+    t.next.0 == 0
 }

@@ -2,7 +2,7 @@
 pub mod format; // format.rt: numbers, heads and records in a sheet's bytes
 pub mod chain; // chain.rt: the reader of a chain
 mod checks; // checks.rt: checks 1 to 5 and 7
-mod once; // once.rt: check 6, and with it check 7
+mod once; // once.rt: checks 17 and 6, and with them check 7
 
 ghost use mathlib.Core.Path.{_≡_};
 ghost use Rattle.sheet.specs.Checks.{lotInRange, sheetVerdict};
@@ -46,7 +46,7 @@ pub enum Reading {
     Accepted {
         lots: u16,
         conditions: u16,
-        terms: u16,
+        records: u16,
     },
     Refused {
         check: u32,
@@ -73,13 +73,14 @@ pub fn read(sheet: &[u8]) -> Reading
             Reading::Accepted {
                 lots: h.lots,
                 conditions: h.conditions,
-                terms: h.records,
+                records: h.records,
             }
         }
     }
 }
 
-// The first of checks 1 to 7 that refuses. Heads are read once by check 4 and once by the walk, records once by check 5 and once by the walk.
+// The first of checks 1 to 7 and 17 that refuses. Heads are read once by check 4 and once by the walk, records once by check 5 and once by the walk, or, where
+// that doesn't reach them, by check 7.
 fn first_refusal(sheet: &[u8]) -> Verdict
     ensures { λ v. ⌜ v ≡ sheetVerdict (now (sheet .entry)) ⌝ }
 {

@@ -1,10 +1,10 @@
-// Check 6: each record is reached at most once.
+// Checks 17 and 6 along the chains: no vacant record is reached, and each record at most once; and with them check 7.
 ghost use mathlib.Core.Path.{_≡_};
 ghost use mathlib.Core.List.{List, []};
 ghost use Prim.Native.Nat.{ℕ, _≤_};
 ghost use Rattle.sheet.specs.declared.Verdict.the-variants.{Passes};
 ghost use Rattle.sheet.specs.Format.{recordCount};
-ghost use Rattle.sheet.specs.Checks.{walked, orElse, check4, check5, check6, check7};
+ghost use Rattle.sheet.specs.Checks.{walked, orElse, check4, check5, check17And6, check7};
 ghost use Rattle.sheet.specs.Inner.{HasHeader, Flags, Walkable, WalkedTo, oneChain};
 use crate::Condition;
 use crate::Header;
@@ -14,7 +14,8 @@ use crate::chain;
 use crate::checks;
 use crate::format;
 
-// One chain, from its head to the zero. It ends since each step flags a record that was not flagged before.
+// One chain, from its head to the zero. A record without a sign is vacant, since check 5 has passed. The walk ends since each step flags a record that was not
+// flagged before.
 fn walk_chain(sheet: &[u8], h: Header, head: Record, flags: &mut [u8]) -> Verdict
     requires { ⌜ Walkable (now sheet) h (now flags) × (head .0 ≤ recordCount (now sheet)) ⌝ }
     ensures { λ v. ⌜ ((seen : List ℕ) → Flags (now (flags .entry)) seen
@@ -23,12 +24,15 @@ fn walk_chain(sheet: &[u8], h: Header, head: Record, flags: &mut [u8]) -> Verdic
     let m = h.conditions;
     let mut at = head;
     while at.0 != 0 {
+        let t = chain::term_at(sheet, at, m);
+        if t.sign == 0 {
+            return Verdict::Refuses(17, at.0 as u32);
+        }
         let i = (at.0 - 1) as usize;
         if flags[i] == 1 {
             return Verdict::Refuses(6, at.0 as u32);
         }
         flags[i] = 1;
-        let t = chain::term_at(sheet, at, m);
         at = t.next;
     }
     Verdict::Passes
@@ -52,22 +56,22 @@ fn walk(sheet: &[u8], h: Header, flags: &mut [u8]) -> Verdict
     Verdict::Passes
 }
 
-// Checks 6 and 7: each record is reached, and once. No flag is set yet.
+// Checks 17, 6 and 7: each record that isn't vacant is reached, and once, and no other is. No flag is set yet.
 fn reached_once(sheet: &[u8], h: Header, flags: &mut [u8]) -> Verdict
     requires { ⌜ Walkable (now sheet) h (now flags) × Flags (now flags) [] ⌝ }
-    ensures { λ v. ⌜ v ≡ orElse (check6 (now (sheet .entry))) (check7 (now (sheet .entry))) ⌝ }
+    ensures { λ v. ⌜ v ≡ orElse (check17And6 (now (sheet .entry))) (check7 (now (sheet .entry))) ⌝ }
 {
     let v = walk(sheet, h, flags);
     if let Verdict::Refuses(_, _) = v {
         return v;
     }
-    checks::reached(flags)
+    checks::reached(sheet, h, flags)
 }
 
-// Checks 6 and 7, once checks 1 to 5 have passed.
+// Checks 17, 6 and 7, once checks 1 to 5 have passed.
 pub(crate) fn check(sheet: &[u8], h: Header) -> Verdict
     requires { ⌜ HasHeader (now sheet) h × (check4 (now sheet) ≡ Passes) × (check5 (now sheet) ≡ Passes) ⌝ }
-    ensures { λ v. ⌜ v ≡ orElse (check6 (now (sheet .entry))) (check7 (now (sheet .entry))) ⌝ }
+    ensures { λ v. ⌜ v ≡ orElse (check17And6 (now (sheet .entry))) (check7 (now (sheet .entry))) ⌝ }
 {
     let k = h.records as usize;
     let mut flags = [0u8; 1024];

@@ -1,5 +1,6 @@
 // The outside vectors, run through four services: data/cases.bin has cases of implementations of documents 01 and 02 that share nothing with this one, those of
-// document 01 alone and then those of the newest request, and the file stdout what they answered. tests/outside runs that request's cases through every service.
+// document 01 alone and then those of the requests in turn, but for cases that a later request answers otherwise, and the file stdout what they answered.
+// tests/outside runs the newest request's cases through every service.
 // A case is the service in one byte (0 read, 1 search, 2 check, 3 evaluate), then three buffers, each its length in four bytes, low byte first, and its bytes:
 // the sheet; the grouping or the list; the store. A line of output is the service, the answer as four numbers, and a checksum of the second and of the third
 // buffer after the call. The program compares nothing itself.

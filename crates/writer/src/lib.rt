@@ -3,9 +3,9 @@
 ghost use mathlib.Core.Path.{_≡_};
 ghost use Prim.Native.Nat.{_+_, _*_, _≤_};
 ghost use lib.ListN.{length};
-ghost use Rattle.sheet.specs.Format.{headerLength, recordCount, conditionCount, sheetLength};
+ghost use Rattle.sheet.specs.Format.{headerLength, conditionCount, sheetLength};
 ghost use Rattle.sheet.specs.Conditions.{termOf, termsFrom, conditionAt};
-ghost use Rattle.sheet.specs.Inner.{HasConditions};
+ghost use Rattle.sheet.specs.Inner.{HasConditions, OnChain};
 ghost use Rattle.writer.specs.Drafts.{draft, begun, withCondition, withTerm, withTerms, KnownSign, RoomFor};
 use sheet::Condition;
 use sheet::Lot;
@@ -87,7 +87,7 @@ pub fn add_term(out: &mut [u8], w: Writer, sign: u8, a: Lot, b: Lot) -> Writer
 
 // Adds the terms of a sheet's chain, from its head to the zero.
 pub fn add_chain(sheet: &[u8], m: u16, head: Record, out: &mut [u8], w: Writer) -> Writer
-    requires { ⌜ HasConditions (now sheet) m × (head .0 ≤ recordCount (now sheet))
+    requires { ⌜ HasConditions (now sheet) m × OnChain (now sheet) (head .0)
         × RoomFor 0 (length (termsFrom (now sheet) (head .0))) (draft (now out) w) ⌝ }
     ensures { λ r. ⌜ draft (now (out .exit)) r ≡ withTerms (termsFrom (now (sheet .entry)) (head .0)) (draft (now (out .entry)) w) ⌝ }
 {

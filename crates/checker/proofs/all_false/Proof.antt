@@ -12,7 +12,7 @@ use Rattle.sheet.specs.Format.{mostLots, sameSign, nextAt, signAt, firstLotAt, 
 use Rattle.sheet.specs.Conditions as conditions
 use Rattle.sheet.specs.Conditions.{termAt, recordsFrom}
 use Rattle.sheet.proofs.Accepted.{SoundRecord, sound, has-record}
-use Rattle.sheet.proofs.ChainEnds.{rest-shorter}
+use Rattle.sheet.proofs.ChainEnds.{on-sound, rest-shorter}
 use Rattle.equality.specs.Node.{classOf}
 use Rattle.equality.proofs.Passing.{Passing, passing-start, passing-through, found, passing-next, ended}
 use Rattle.marks.specs.Marks.{markAt}
@@ -78,18 +78,18 @@ chain-holds : tie.Need-chain-holds Inv-loop μ-loop Inv-chain μ-chain
 chain-holds c = passing-start (allows _ _) _ _ (c .before .before .before .pre .3)
 
 loop-holds : tie.Need-loop-holds Inv-loop μ-loop Inv-chain μ-chain
-loop-holds c = (omega (arith, c .if1 .taken), passing-start (allows _ _) _ _ (c .before .before .chain .inv .within), omega arith)
+loop-holds c = (omega (arith, c .if1 .taken), passing-start (allows _ _) _ _ (c .before .before .chain .inv .on), omega arith)
 
 -- ---- a record
 
 add-following : tie.Need-add-following Inv-loop μ-loop Inv-chain μ-chain
-add-following c = omega (arith, walked c .within, sound (begun c .args .sheet .now) (begun c .pre .0 .accepted) .header .records)
+add-following c = omega (arith, walked c .on .within, sound (begun c .args .sheet .now) (begun c .pre .0 .accepted) .header .records)
 
 record-number : (c : Turn) → 1 ≤ place c
 record-number c = c .before .loop .inv .0
 
 fields : (c : Turn) → SoundRecord (begun c .args .sheet .now) (place c)
-fields c = sound (begun c .args .sheet .now) (begun c .pre .0 .accepted) .records (place c) (record-number c) (walked c .within)
+fields c = on-sound (begun c .args .sheet .now) (begun c .pre .0 .accepted) (place c) (record-number c) (walked c .on)
 
 -- Its lots have entries in the map.
 first-entry : (c : Read) → c .term-at .result .a .0 ≤ mostLots
@@ -105,7 +105,8 @@ second-entry c =
 term-at-requires : tie.Need-term-at-requires Inv-loop μ-loop Inv-chain μ-chain
 term-at-requires c κs =
     let start = begun c in
-    rw (start .pre .0 .counted) (has-record (sound (start .args .sheet .now) (start .pre .0 .accepted) .header) (place c) (record-number c) (walked c .within))
+    rw (start .pre .0 .counted)
+    (has-record (sound (start .args .sheet .now) (start .pre .0 .accepted) .header) (place c) (record-number c) (walked c .on .within))
 
 cast-a : tie.Need-cast-a Inv-loop μ-loop Inv-chain μ-chain
 cast-a c = search needs
@@ -165,7 +166,7 @@ shorter c =
     let d = turn c in
     let s = begun d .args .sheet .now in
     subst (λ (r : ℕ). length (recordsFrom s r) < length (recordsFrom s (place d))) (next-of c)
-    (rest-shorter s (begun d .pre .0 .accepted) (place d) (record-number d) (walked d .within))
+    (rest-shorter s (begun d .pre .0 .accepted) (place d) (record-number d) (walked d .on .within))
 
 passed : (c : Asked) → c .allows .result ≡ false
     → Passing (test (begun (turn (asked c)))) (begun (turn (asked c)) .args .sheet .now) (run (turn (asked c))) (asked c .term-at .result .next .0)

@@ -1,14 +1,16 @@
 -- `checker::ground_passes`: past the terms that are seen to be false, the terms that are left are tested by a table with the path's marks.
 use borrow.Author.Needs.{needs}
 use Prim.Native.Nat.{ℕ, _≤_}
-use mathlib.Core.Bool.{not}
+use mathlib.Core.Bool.{true, not}
 use mathlib.Core.List.{List, []}
 use mathlib.Core.Path.{_≡_, refl, sym, ap, subst, _∙_}
 use native.Mathlib.Omega.{arith}
-use Rattle.sheet.specs.Format.{conditionCount, recordCount, headAt}
+use borrow.Author.Tests.{eq-eqb, ne-eqb}
+use Rattle.sheet.specs.Format.{conditionCount, headAt}
+use Rattle.sheet.specs.Inner.{OnChain}
 use Rattle.sheet.specs.Conditions.{termsFrom}
 use Rattle.sheet.proofs.Accepted.{sound}
-use Rattle.sheet.proofs.ChainEnds.{terms-end}
+use Rattle.sheet.proofs.ChainEnds.{terms-end, head-on}
 use Rattle.equality.specs.Meaning.{anyTerm}
 use Rattle.equality.specs.Node.{Decisions, classes, marked}
 use Rattle.equality.proofs.Some.{any-false}
@@ -36,16 +38,19 @@ module _ (start : tie.Start) where
   counted : start .args .c .0 ≤ conditionCount s
   counted = omega (arith, start .pre .2, start .pre .0 .counted)
 
-  head-within : headAt s (start .args .c .0) ≤ recordCount s
-  head-within = sound s (start .pre .0 .accepted) .heads (start .args .c .0) (start .pre .1) counted
+  head-within : OnChain s (headAt s (start .args .c .0))
+  head-within = head-on s (start .pre .0 .accepted) (start .args .c .0) (start .pre .1) counted
 
 -- ---- the places before the table is stamped
 
 abbrev begun : tie.After-top → tie.Start
 begun c = c .before .before .before .before .before .before
 
+abbrev headed : tie.After-past-false → tie.After-head-at
+headed c = c .before .before .before
+
 abbrev mapped : tie.After-past-false → tie.After-top
-mapped c = c .before .before
+mapped c = headed c .before
 
 abbrev outset : tie.After-past-false → tie.Start
 outset c = begun (mapped c)
@@ -67,10 +72,21 @@ head-at-requires c κs =
 
 past-false-requires : tie.Need-past-false-requires
 past-false-requires c κs =
-    let start = begun (c .before) in
-    (start .pre .0, start .pre .3 .within, is-map (c .before), rw (c .head-at .ensures) (head-within start))
+    let head = c .before .before in
+    let start = begun (head .before) in
+    (start .pre .0, start .pre .3 .within, is-map (head .before), rw (head .head-at .ensures) (head-within start))
 
--- The terms that are left of the chain decide the ground.
+-- A condition with no term is withdrawn, and no ground;
+returns : tie.Need-returns
+returns c =
+    let head = c .before .before in
+    let start = begun (head .before) in
+    let none = eq-eqb (headAt (s start) (start .args .c .0)) 0 (sym (head .head-at .ensures) ∙ c .if1 .taken) in
+    let fails : groundFails (ds start) (named (s start) (start .args .c .0)) ≡ true =
+    ground-terms (ds start) (s start) (start .pre .0 .accepted) (start .args .c .0) (start .pre .1) (counted start) ∙ rw none in
+    sym (ap not fails)
+
+-- of another the terms that are left of the chain decide.
 left-over : (c : tie.After-past-false)
     → anyTerm (stands (ds (outset c))) (termsFrom (s (outset c)) (c .past-false .result .0))
     ≡ groundFails (ds (outset c)) (named (s (outset c)) (outset c .args .c .0))
@@ -78,23 +94,24 @@ left-over c =
     let start = outset c in
     let ok = start .pre .0 .accepted in
     let lots = map-is (mapped c) in
-    let head = c .before .head-at .ensures in
+    let head = headed c .head-at .ensures in
+    let some = ne-eqb (headAt (s start) (start .args .c .0)) 0 (λ z. c .before .if1 .left (head ∙ z)) in
     let agree = terms-agree (ds start) (s start) ok (marked (classes (ds start)) (ds start)) (λ x y hx hy n. refl) in
     sym (agree (c .past-false .result .0) (c .past-false .ensures .0))
     ∙ sym (λ i. anyTerm (allows (lots i) (marked (lots i) (ds start))) (termsFrom (s start) (c .past-false .result .0)))
     ∙ sym (c .past-false .ensures .1)
     ∙ (λ i. anyTerm (allows (lots i) (marked (lots i) (ds start))) (termsFrom (s start) (head i)))
     ∙ agree (headAt (s start) (start .args .c .0)) (head-within start)
-    ∙ ground-terms (ds start) (s start) ok (start .args .c .0) (start .pre .1) (counted start)
+    ∙ sym (ground-terms (ds start) (s start) ok (start .args .c .0) (start .pre .1) (counted start) ∙ rw some)
 
-returns : tie.Need-returns
-returns c =
+returns-2 : tie.Need-returns-2
+returns-2 c =
     let left = c .before .before in
     let start = outset left in
     ap not
     (sym
     (sym (left-over left)
-    ∙ ap (λ (r : ℕ). anyTerm (stands (ds start)) (termsFrom (s start) r)) (c .if1 .taken)
+    ∙ ap (λ (r : ℕ). anyTerm (stands (ds start)) (termsFrom (s start) r)) (c .if2 .taken)
     ∙ ap (anyTerm (stands (ds start))) (terms-end (s start))
     ∙ any-false (stands (ds start)) [] tt))
 
@@ -119,8 +136,8 @@ all-false-requires c κs =
 same-length : tie.Need-same-length
 same-length c = search needs
 
-returns-2 : tie.Need-returns-2
-returns-2 c =
+returns-3 : tie.Need-returns-3
+returns-3 c =
     let marked-at = c .before .before .before .before in
     let left = left-at marked-at in
     let start = outset left in
@@ -139,9 +156,10 @@ ground-passes-spec =
     (tie.spec
     top-requires
     head-at-requires
-    past-false-requires
     returns
+    past-false-requires
+    returns-2
     stamp-requires
     all-false-requires
     same-length
-    returns-2)
+    returns-3)

@@ -10,10 +10,11 @@ use native.Mathlib.Omega.{arith}
 use lib.Dec.{eqb}
 use lib.ListN.{length}
 use Rattle.sheet.specs.declared.Term.{Term}
-use Rattle.sheet.specs.Format.{mostLots, sameSign, recordCount, signAt, firstLotAt, secondLotAt}
+use Rattle.sheet.specs.Format.{mostLots, sameSign, signAt, firstLotAt, secondLotAt}
+use Rattle.sheet.specs.Inner.{OnChain}
 use Rattle.sheet.specs.Conditions.{termAt, recordsFrom, termsFrom}
 use Rattle.sheet.proofs.Accepted.{SoundRecord, sound, has-record}
-use Rattle.sheet.proofs.ChainEnds.{rest-shorter}
+use Rattle.sheet.proofs.ChainEnds.{on-sound, rest-shorter}
 use Rattle.equality.specs.Meaning.{anyTerm}
 use Rattle.equality.specs.Node.{classOf, marked}
 use Rattle.equality.proofs.Passing.{Passing, passing-start, passing-next, left-decides}
@@ -50,7 +51,7 @@ record-number c = omega (arith, c .if1 .taken)
 fields : (c : tie.Then1 Inv-loop μ-loop) → SoundRecord (begun (tested c) .args .sheet .now) (tested c .loop .at .0)
 fields c =
     let start = begun (tested c) in
-    sound (start .args .sheet .now) (start .pre .0 .accepted) .records (tested c .loop .at .0) (record-number c) (tested c .loop .inv .within)
+    on-sound (start .args .sheet .now) (start .pre .0 .accepted) (tested c .loop .at .0) (record-number c) (tested c .loop .inv .on)
 
 -- and its lots have entries in the map.
 first-entry : (c : tie.After-term-at Inv-loop μ-loop) → c .term-at .result .a .0 ≤ mostLots
@@ -67,7 +68,8 @@ term-at-requires : tie.Need-term-at-requires Inv-loop μ-loop
 term-at-requires c κs =
     let start = begun (tested c) in
     let can = start .pre .0 in
-    rw (can .counted) (has-record (sound (start .args .sheet .now) (can .accepted) .header) (tested c .loop .at .0) (record-number c) (tested c .loop .inv .within))
+    rw (can .counted)
+    (has-record (sound (start .args .sheet .now) (can .accepted) .header) (tested c .loop .at .0) (record-number c) (tested c .loop .inv .on .within))
 
 cast-x : tie.Need-cast-x Inv-loop μ-loop
 cast-x c = search needs
@@ -87,12 +89,15 @@ shared-slice-read-y c =
 
 -- Where the loop is left, what is left of the chain decides.
 module _ (l : tie.At-loop Inv-loop μ-loop) where
-  leaves : (l .loop .at .0 ≤ recordCount (begun l .args .sheet .now))
+  leaves : OnChain (begun l .args .sheet .now) (l .loop .at .0)
       × (anyTerm (allows (begun l .args .lots .now) (marks l)) (termsFrom (begun l .args .sheet .now) (begun l .args .head .0))
       ≡ anyTerm (allows (begun l .args .lots .now) (marks l)) (termsFrom (begun l .args .sheet .now) (l .loop .at .0)))
   leaves =
-      let start = begun l in
-      (l .loop .inv .within, left-decides (allows (start .args .lots .now) (marks l)) (start .args .sheet .now) (start .pre .0 .accepted) (start .args .head .0) (l .loop .at .0) (l .loop .inv))
+      let start = begun l in (
+        l .loop .inv .on,
+        left-decides (allows (start .args .lots .now) (marks l)) (start .args .sheet .now) (start .pre .0 .accepted)
+            (start .args .head .0) (l .loop .at .0) (l .loop .inv),
+      )
 
 -- Once a turn's term and its classes are read.
 abbrev asked : tie.After-struct-known4 Inv-loop μ-loop → tie.After-term-at Inv-loop μ-loop
@@ -146,7 +151,8 @@ loop-less c =
     let then = turn (c .before .before) in
     let l = tested then in
     let start = begun l in
-    rw (asked (c .before .before) .term-at .ensures) (rest-shorter (start .args .sheet .now) (start .pre .0 .accepted) (l .loop .at .0) (record-number then) (l .loop .inv .within))
+    rw (asked (c .before .before) .term-at .ensures)
+    (rest-shorter (start .args .sheet .now) (start .pre .0 .accepted) (l .loop .at .0) (record-number then) (l .loop .inv .on .within))
 
 loop-again : tie.Need-loop-again Inv-loop μ-loop
 loop-again c =

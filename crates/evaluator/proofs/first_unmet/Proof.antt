@@ -8,6 +8,7 @@ use borrow.Author.Tests.{not-true, not-false}
 use Rattle.sheet.specs.Format.{conditionCount}
 use Rattle.sheet.specs.Conditions.{conditionAt, termsFrom}
 use Rattle.sheet.proofs.Accepted.{Sound, sound}
+use Rattle.sheet.proofs.ChainEnds.{head-on}
 use Rattle.sheet.proofs.Scanning.{Scanning, scanning-start, found-here, scanning-next, none-found}
 use Rattle.equality.specs.Meaning.{meetsCondition}
 use Rattle.equality.specs.Evaluator.{numberIn, lowestUnmet}
@@ -55,7 +56,7 @@ is-met-requires : tie.Need-is-met-requires Inv-loop μ-loop
 is-met-requires c κs =
     let turn = c .before in (
       begun turn .pre,
-      rw (c .head-at .ensures) (facts turn .heads (turn .before .loop .c + 1) (omega arith) (omega (arith, below turn))),
+      rw (c .head-at .ensures) (head-on (s turn) (begun turn .pre .sheet .accepted) (turn .before .loop .c + 1) (omega arith) (omega (arith, below turn))),
     )
 
 -- What `is_met` answers is whether the next condition is met.

@@ -14,7 +14,7 @@ use Rattle.sheet.specs.Format.{nextAt}
 use Rattle.sheet.specs.Checks.{Accepted}
 use Rattle.sheet.specs.Conditions.{same, apart, termOf, termAt, recordsFrom}
 use Rattle.sheet.proofs.Accepted.{sound, has-record}
-use Rattle.sheet.proofs.ChainEnds.{rest-shorter}
+use Rattle.sheet.proofs.ChainEnds.{on-sound, rest-shorter}
 use Rattle.equality.specs.Node.{Decisions}
 use Rattle.classes.specs.Pairs.{Represents}
 use Rattle.classes.proofs.Path.{marked-says}
@@ -95,13 +95,13 @@ record-number c = omega (arith, c .before .if1 .taken)
 
 term-at-requires : tie.Need-term-at-requires Inv-loop μ-loop
 term-at-requires c κs =
-    rw (begun c .pre .0 .counted) (has-record (sound (bytes c) (accepted c) .header) (place c) (record-number c) (walked c .within))
+    rw (begun c .pre .0 .counted) (has-record (sound (bytes c) (accepted c) .header) (place c) (record-number c) (walked c .on .within))
 
 marked-apart-requires : tie.Need-marked-apart-requires Inv-loop μ-loop
 marked-apart-requires c κs =
     let term = read-of (c .before .before .before) in
     let d = turn term in
-    let fields = sound (bytes d) (accepted d) .records (place d) (record-number d) (walked d .within) in
+    let fields = on-sound (bytes d) (accepted d) (place d) (record-number d) (walked d .on) in
     let lots = sound (bytes d) (accepted d) .header .lots in
     rw (term .term-at .ensures)
     (begun d .pre .1 .within, omega (arith, fields .first .high, lots), omega (arith, fields .second .high, lots))
@@ -124,7 +124,7 @@ loop-less c =
     let term = c .before .before .before in
     let d = turn term in
     subst (λ (r : ℕ). length (recordsFrom (bytes d) r) < length (recordsFrom (bytes d) (place d))) (next-of term)
-    (rest-shorter (bytes d) (accepted d) (place d) (record-number d) (walked d .within))
+    (rest-shorter (bytes d) (accepted d) (place d) (record-number d) (walked d .on .within))
 
 -- The record's term, by what was read of it;
 term-of : (c : Read) → termAt (bytes (turn c)) (place (turn c)) ≡ termOf (c .term-at .result .sign) (c .term-at .result .a .0) (c .term-at .result .b .0)
@@ -195,7 +195,7 @@ by-table-requires : tie.Need-by-table-requires Inv-loop μ-loop
 by-table-requires c κs =
     let left = c .before .before .before in
     let start = left-begun left in
-    (start .pre .0, start .pre .1, looped left .loop .inv .within)
+    (start .pre .0, start .pre .1, looped left .loop .inv .on)
 
 same-length-2 : tie.Need-same-length-2 Inv-loop μ-loop
 same-length-2 c = search needs

@@ -13,7 +13,7 @@ use Rattle.sheet.specs.Format.{mostLots, nextAt}
 use Rattle.sheet.specs.Checks.{Accepted}
 use Rattle.sheet.specs.Conditions.{same, apart, termOf, termAt, recordsFrom}
 use Rattle.sheet.proofs.Accepted.{sound, has-record}
-use Rattle.sheet.proofs.ChainEnds.{rest-shorter}
+use Rattle.sheet.proofs.ChainEnds.{on-sound, rest-shorter}
 use Rattle.equality.proofs.Passing.{Passing, passing-start, passing-through, passing-next}
 use Rattle.node.specs.Place.{PassesTo}
 use Rattle.node.proofs.Opening.{tableOf, table-says, openBy, sign-same, sign-apart, none-open, open-here, open-leaves}
@@ -97,25 +97,25 @@ chain-holds : tie.Need-chain-holds Inv-loop μ-loop Inv-chain μ-chain
 chain-holds c = passing-start (openBy _) _ _ (c .before .before .before .pre .3)
 
 loop-holds : tie.Need-loop-holds Inv-loop μ-loop Inv-chain μ-chain
-loop-holds c = (omega (arith, c .if1 .taken), passing-start (openBy _) _ _ (c .before .before .chain .inv .within), omega arith)
+loop-holds c = (omega (arith, c .if1 .taken), passing-start (openBy _) _ _ (c .before .before .chain .inv .on), omega arith)
 
 -- ---- a record
 
 add-following : tie.Need-add-following Inv-loop μ-loop Inv-chain μ-chain
-add-following c = omega (arith, walked c .within, sound (bytes c) (accepted c) .header .records)
+add-following c = omega (arith, walked c .on .within, sound (bytes c) (accepted c) .header .records)
 
 record-number : (c : Turn) → 1 ≤ place c
 record-number c = c .before .loop .inv .0
 
 term-at-requires : tie.Need-term-at-requires Inv-loop μ-loop Inv-chain μ-chain
 term-at-requires c κs =
-    rw (begun c .pre .0 .counted) (has-record (sound (bytes c) (accepted c) .header) (place c) (record-number c) (walked c .within))
+    rw (begun c .pre .0 .counted) (has-record (sound (bytes c) (accepted c) .header) (place c) (record-number c) (walked c .on .within))
 
 -- Its lots have entries.
 lots-within : (c : Read) → (c .term-at .result .a .0 ≤ mostLots) × (c .term-at .result .b .0 ≤ mostLots)
 lots-within c =
     let d = turn c in
-    let fields = sound (bytes d) (accepted d) .records (place d) (record-number d) (walked d .within) in
+    let fields = on-sound (bytes d) (accepted d) (place d) (record-number d) (walked d .on) in
     let lots = sound (bytes d) (accepted d) .header .lots in
     rw (c .term-at .ensures) (omega (arith, fields .first .high, lots), omega (arith, fields .second .high, lots))
 
@@ -158,7 +158,7 @@ shorter : (c : Read) → length (recordsFrom (bytes (turn c)) (c .term-at .resul
 shorter c =
     let d = turn c in
     subst (λ (r : ℕ). length (recordsFrom (bytes d) r) < length (recordsFrom (bytes d) (place d))) (next-of c)
-    (rest-shorter (bytes d) (accepted d) (place d) (record-number d) (walked d .within))
+    (rest-shorter (bytes d) (accepted d) (place d) (record-number d) (walked d .on .within))
 
 -- and the terms since the run began are closed.
 passed : (c : Passed) → Passing (openBy (marks (turn (passed-read c)))) (bytes (turn (passed-read c))) (run (turn (passed-read c))) (passed-read c .term-at .result .next .0)

@@ -2,23 +2,26 @@
 -- settled conditions; the terms that the loops over a condition's terms have passed are not true by the classes, and they have written no level. The loop over
 -- a run stands at a record, from which on there are no more records than from the one where the run begins.
 use borrow.Author.Needs.{needs}
-use mathlib.Core.Path.{_≡_, refl, sym, ap, _∙_}
+use mathlib.Core.Path.{_≡_, refl, sym, ap, subst, _∙_}
 use mathlib.Core.List.{List}
 use Prim.Native.Nat.{ℕ, suc, _+_, _-_, _≤_, _<_}
 use native.Mathlib.Numerals.{add-one}
 use native.Mathlib.Omega.{arith}
+use borrow.Author.Tests.{eq-eqb, ne-eqb}
 use lib.Dec.{eqb}
-use mathlib.Core.Bool.{Bool, true, false, Bool·beq}
+use mathlib.Core.Bool.{Bool, true, false, _||_, or-false, Bool·beq}
 use lib.ListN.{length}
 use Rattle.sheet.specs.declared.Term.{Term}
 use Rattle.sheet.specs.Checks.{Accepted}
 use Rattle.sheet.specs.Conditions.{termAt, recordsFrom, termsFrom, conditionAt, conditions}
-use Rattle.sheet.specs.Format.{sameSign, mostLots, lotCount, conditionCount, recordCount, headAt, signAt, firstLotAt, secondLotAt, nextAt}
+use Rattle.sheet.specs.Format.{sameSign, mostLots, lotCount, conditionCount, headAt, signAt, firstLotAt, secondLotAt, nextAt}
+use Rattle.sheet.specs.Inner.{OnChain}
 use Rattle.sheet.proofs.Accepted.{SoundRecord, sound, has-record}
-use Rattle.sheet.proofs.ChainEnds.{rest-shorter}
+use Rattle.sheet.proofs.ChainEnds.{head-on, on-sound, rest-shorter}
 use Rattle.equality.specs.Node.{Decisions, classes, classOf, takes, taken}
 use Rattle.equality.specs.Meaning.{holds, meetsCondition}
-use Rattle.equality.proofs.Some.{some-any, some-found}
+use Rattle.equality.proofs.Some.{some-found}
+use Rattle.equality.proofs.Withdrawn.{chain-some}
 use Rattle.equality.proofs.Passing.{Passing, passing-start, found, passing-next, ended}
 use Rattle.equality.proofs.Node.{lowestTaken}
 use Rattle.sheet.proofs.Scanning.{Scanning, scanning-start, found-here, scanning-next, none-found}
@@ -54,7 +57,7 @@ abbrev μ-conditions : tie.MeasureT-conditions
 μ-conditions sheet m levels₀ level lots c₀ levels c = m - c
 
 -- ---- the places of the code: in a turn of the outer loop, where a head was read, in a turn of the loop over a run, where a term was read, where it is true,
--- where it is not, where the run goes on after it, and where no term is left
+-- where it is not, where the run goes on after it, where no term is left, and where there were some
 
 abbrev Turn : Type 0
 Turn = tie.Else1 Inv-run μ-run Inv-terms μ-terms Inv-conditions μ-conditions
@@ -69,16 +72,19 @@ abbrev Read : Type 0
 Read = tie.After-term-at Inv-run μ-run Inv-terms μ-terms Inv-conditions μ-conditions
 
 abbrev Holding : Type 0
-Holding = tie.Then4 Inv-run μ-run Inv-terms μ-terms Inv-conditions μ-conditions
+Holding = tie.Then5 Inv-run μ-run Inv-terms μ-terms Inv-conditions μ-conditions
 
 abbrev Failing : Type 0
-Failing = tie.After-struct-known6 Inv-run μ-run Inv-terms μ-terms Inv-conditions μ-conditions
+Failing = tie.After-struct-known7 Inv-run μ-run Inv-terms μ-terms Inv-conditions μ-conditions
 
 abbrev Following : Type 0
-Following = tie.Else6 Inv-run μ-run Inv-terms μ-terms Inv-conditions μ-conditions
+Following = tie.Else7 Inv-run μ-run Inv-terms μ-terms Inv-conditions μ-conditions
 
 abbrev Over : Type 0
 Over = tie.Then3 Inv-run μ-run Inv-terms μ-terms Inv-conditions μ-conditions
+
+abbrev Left : Type 0
+Left = tie.Else4 Inv-run μ-run Inv-terms μ-terms Inv-conditions μ-conditions
 
 abbrev begun : Turn → tie.Start Inv-run μ-run Inv-terms μ-terms Inv-conditions μ-conditions
 begun c = c .before .before .before .before .before
@@ -109,6 +115,9 @@ failed c = inner-of (read-before c)
 
 abbrev over : Over → Headed
 over c = c .before .before .before
+
+abbrev over-of : Left → Over
+over-of c = c .before .before
 
 -- ---- what is there
 
@@ -201,10 +210,10 @@ head-at-requires c κs = let d = c .before .before in omega (arith, numbered d, 
 head-of : (c : Headed) → c .head-at .result .0 ≡ headAt (bytes (turn-of c)) (suc (number (turn-of c)))
 head-of c = c .head-at .ensures ∙ ap (headAt (bytes (turn-of c))) (add-one (number (turn-of c)))
 
-head-within : (c : Headed) → c .head-at .result .0 ≤ recordCount (bytes (turn-of c))
+head-within : (c : Headed) → OnChain (bytes (turn-of c)) (c .head-at .result .0)
 head-within c =
     let d = turn-of c in
-    omega (arith, c .head-at .ensures, sound (bytes d) (accepted d) .heads (number d + 1) (omega arith) (omega (arith, numbered d)))
+    subst (OnChain (bytes d)) (sym (c .head-at .ensures)) (head-on (bytes d) (accepted d) (number d + 1) (omega arith) (omega (arith, numbered d)))
 
 terms-holds : tie.Need-terms-holds Inv-run μ-run Inv-terms μ-terms Inv-conditions μ-conditions
 terms-holds c = (passing-start _ _ _ (head-within c), refl)
@@ -221,10 +230,10 @@ run-holds c =
 add-following : tie.Need-add-following Inv-run μ-run Inv-terms μ-terms Inv-conditions μ-conditions
 add-following c =
     let d = c .before in
-    omega (arith, walked d .within, sound (bytes (turn d)) (accepted (turn d)) .header .records)
+    omega (arith, walked d .on .within, sound (bytes (turn d)) (accepted (turn d)) .header .records)
 
 fields : (c : Inner) → SoundRecord (bytes (turn c)) (place c)
-fields c = sound (bytes (turn c)) (accepted (turn c)) .records (place c) (record-number c) (walked c .within)
+fields c = on-sound (bytes (turn c)) (accepted (turn c)) (place c) (record-number c) (walked c .on)
 
 lots-within : (c : Inner) → lotCount (bytes (turn c)) ≤ mostLots
 lots-within c = sound (bytes (turn c)) (accepted (turn c)) .header .lots
@@ -233,7 +242,7 @@ term-at-requires : tie.Need-term-at-requires Inv-run μ-run Inv-terms μ-terms I
 term-at-requires c κs =
     let d = c .before in
     rw (begun (turn d) .pre .0 .counted)
-    (has-record (sound (bytes (turn d)) (accepted (turn d)) .header) (place d) (record-number d) (walked d .within))
+    (has-record (sound (bytes (turn d)) (accepted (turn d)) .header) (place d) (record-number d) (walked d .on .within))
 
 cast-a : tie.Need-cast-a Inv-run μ-run Inv-terms μ-terms Inv-conditions μ-conditions
 cast-a c = search needs
@@ -272,10 +281,11 @@ met-here c =
     let s = bytes (turn d) in
     let head = headed d .head-at .result .0 in
     ap (λ (r : ℕ). meetsCondition f (termsFrom s r)) (sym (head-of (headed d)))
-    ∙ some-found (holds f) (termsFrom s head) (found (holds f) s (accepted (turn d)) head (place d) (walked d) (record-number d) (flag (read-of c) ∙ c .if4 .taken))
+    ∙ some-found (holds f) (termsFrom s head)
+    (found (holds f) s (accepted (turn d)) head (place d) (walked d) (record-number d) (flag (read-of c) ∙ c .if5 .taken))
 
 -- and one whose lots share a class settles it.
-settled-by : (c : tie.Then5 Inv-run μ-run Inv-terms μ-terms Inv-conditions μ-conditions)
+settled-by : (c : tie.Then6 Inv-run μ-run Inv-terms μ-terms Inv-conditions μ-conditions)
     → settledBy (lots (turn (inner (c .before)))) (conditionAt (bytes (turn (inner (c .before)))) (suc (number (turn (inner (c .before)))))) ≡ true
 settled-by c =
     let term = read-of (c .before) in
@@ -286,8 +296,8 @@ settled-by c =
     ap (λ (r : ℕ). settledBy cs (termsFrom s r)) (sym (head-of (headed d)))
     ∙ found-sharing cs s (holds (classOf cs)) (accepted (turn d)) (headed d .head-at .result .0) r (walked d) (record-number d)
     (sharing-flag cs (signAt s r) (firstLotAt s r) (secondLotAt s r)
-    (ap (λ (t : Term). eqb (classOf cs (t .a .0)) (classOf cs (t .b .0))) (sym (term .term-at .ensures)) ∙ c .if5 .taken)
-    (ap (λ (t : Term). Bool·beq (eqb (classOf cs (t .a .0)) (classOf cs (t .b .0))) (eqb (t .sign) sameSign)) (sym (term .term-at .ensures)) ∙ c .before .if4 .taken))
+    (ap (λ (t : Term). eqb (classOf cs (t .a .0)) (classOf cs (t .b .0))) (sym (term .term-at .ensures)) ∙ c .if6 .taken)
+    (ap (λ (t : Term). Bool·beq (eqb (classOf cs (t .a .0)) (classOf cs (t .b .0))) (eqb (t .sign) sameSign)) (sym (term .term-at .ensures)) ∙ c .before .if5 .taken))
 
 mul-levels : tie.Need-mul-levels Inv-run μ-run Inv-terms μ-terms Inv-conditions μ-conditions
 mul-levels c =
@@ -299,11 +309,11 @@ slice-write-levels c =
     let d = inner (c .before) in
     omega (arith, level-place (turn d), ap length (unwritten d))
 
-conditions-less-2 : tie.Need-conditions-less-2 Inv-run μ-run Inv-terms μ-terms Inv-conditions μ-conditions
-conditions-less-2 c = omega (arith, turn (inner (c .before)) .if1 .left)
+conditions-less-3 : tie.Need-conditions-less-3 Inv-run μ-run Inv-terms μ-terms Inv-conditions μ-conditions
+conditions-less-3 c = omega (arith, turn (inner (c .before)) .if1 .left)
 
-conditions-again-2 : tie.Need-conditions-again-2 Inv-run μ-run Inv-terms μ-terms Inv-conditions μ-conditions
-conditions-again-2 c =
+conditions-again-3 : tie.Need-conditions-again-3 Inv-run μ-run Inv-terms μ-terms Inv-conditions μ-conditions
+conditions-again-3 c =
     let d = inner (c .before) in
     let outer = turn d in
     let inv = outer .before .conditions .inv in
@@ -312,11 +322,11 @@ conditions-again-2 c =
     (level-place outer) (headed d .before .if2 .left) (settled-by c) (inv .1) (inv .2) in
     (passed outer (met-here (c .before)), rest .0, rest .1)
 
-conditions-less-3 : tie.Need-conditions-less-3 Inv-run μ-run Inv-terms μ-terms Inv-conditions μ-conditions
-conditions-less-3 c = omega (arith, turn (inner (c .before)) .if1 .left)
+conditions-less-4 : tie.Need-conditions-less-4 Inv-run μ-run Inv-terms μ-terms Inv-conditions μ-conditions
+conditions-less-4 c = omega (arith, turn (inner (c .before)) .if1 .left)
 
-conditions-again-3 : tie.Need-conditions-again-3 Inv-run μ-run Inv-terms μ-terms Inv-conditions μ-conditions
-conditions-again-3 c =
+conditions-again-4 : tie.Need-conditions-again-4 Inv-run μ-run Inv-terms μ-terms Inv-conditions μ-conditions
+conditions-again-4 c =
     let d = inner (c .before) in
     let inv = turn d .before .conditions .inv in
     let none = unwritten d in
@@ -333,14 +343,14 @@ walked-on : (c : Failing)
 walked-on c =
     let d = failed c in
     passing-next (holds (classOf (lots (turn d)))) (bytes (turn d)) (accepted (turn d)) (headed d .head-at .result .0) (place d) (walked d) (record-number d)
-    (flag (read-before c) ∙ c .before .if4 .left)
+    (flag (read-before c) ∙ c .before .if5 .left)
 
 -- and from its next on there are fewer records.
 fewer : (c : Failing)
     → length (recordsFrom (bytes (turn (failed c))) (next-of c)) < length (recordsFrom (bytes (turn (failed c))) (place (failed c)))
 fewer c =
     let d = failed c in
-    rest-shorter (bytes (turn d)) (accepted (turn d)) (place d) (record-number d) (walked d .within)
+    rest-shorter (bytes (turn d)) (accepted (turn d)) (place d) (record-number d) (walked d .on .within)
 
 -- The run ends at it,
 terms-less : tie.Need-terms-less Inv-run μ-run Inv-terms μ-terms Inv-conditions μ-conditions
@@ -355,7 +365,7 @@ terms-again c =
 
 -- or goes on: its next is the record that follows it.
 followed : (c : Following) → next-of (c .before) ≡ place (failed (c .before)) + 1
-followed c = ap (λ (t : Term). t .next .0) (sym (read-before (c .before) .term-at .ensures)) ∙ c .if6 .left
+followed c = ap (λ (t : Term). t .next .0) (sym (read-before (c .before) .term-at .ensures)) ∙ c .if7 .left
 
 run-less : tie.Need-run-less Inv-run μ-run Inv-terms μ-terms Inv-conditions μ-conditions
 run-less c = rw (followed c) at (fewer (c .before))
@@ -386,35 +396,58 @@ returns c =
       (tt, (inv .1, inv .2)),
     )
 
--- or no term is left of this one, and it is taken: here alone it matters what a condition with no term counts for.
-unmet : (c : Over) → Meets (turn-of (over c)) false
-unmet c =
+-- or no term is left of this one,
+by-head : (c : Over) → meetsCondition (classOf (lots (turn-of (over c)))) (conditionAt (bytes (turn-of (over c))) (suc (number (turn-of (over c)))))
+    ≡ eqb (over c .head-at .result .0) 0
+by-head c =
     let head = over c in
     let d = turn-of head in
     let f = classOf (lots d) in
+    let r = head .head-at .result .0 in
     ap (λ (r : ℕ). meetsCondition f (termsFrom (bytes d) r)) (sym (head-of head))
-    ∙ some-any (holds f) (termsFrom (bytes d) (head .head-at .result .0))
-    ∙ ended (holds f) (bytes d) (accepted d) (head .head-at .result .0) (c .before .before .terms .at .0) (c .before .before .terms .inv .0) (c .if3 .taken)
+    ∙ chain-some (holds f) (bytes d) (accepted d) r (head-within head .within)
+    ∙ ap (λ (b : Bool). eqb r 0 || b)
+    (ended (holds f) (bytes d) (accepted d) r (c .before .before .terms .at .0) (c .before .before .terms .inv .0) (c .if3 .taken))
+    ∙ or-false (eqb r 0)
 
-condition-taken : (c : Over) (ds : Decisions) → lots (turn-of (over c)) ≡ classes ds
-    → taken ds 1 (conditions (bytes (turn-of (over c)))) ≡ takes (number (turn-of (over c)) + 1) (conditionAt (bytes (turn-of (over c))) (number (turn-of (over c)) + 1))
+-- which passes it over if it has none, being withdrawn,
+abbrev withdrawn-at : tie.Then4 Inv-run μ-run Inv-terms μ-terms Inv-conditions μ-conditions → Over
+withdrawn-at c = c .before .before
+
+conditions-less-2 : tie.Need-conditions-less-2 Inv-run μ-run Inv-terms μ-terms Inv-conditions μ-conditions
+conditions-less-2 c = omega (arith, turn-of (over (withdrawn-at c)) .if1 .left)
+
+conditions-again-2 : tie.Need-conditions-again-2 Inv-run μ-run Inv-terms μ-terms Inv-conditions μ-conditions
+conditions-again-2 c =
+    let d = turn-of (over (withdrawn-at c)) in
+    let inv = d .before .conditions .inv in
+    let none = withdrawn-at c .before .before .terms .inv .1 in
+    (passed d (by-head (withdrawn-at c) ∙ eq-eqb _ 0 (c .if4 .taken)), rw none (inv .1), rw none (inv .2))
+
+-- and takes it if it has: here alone it matters what a condition with no term counts for.
+unmet : (c : Left) → Meets (turn-of (over (over-of c))) false
+unmet c = by-head (over-of c) ∙ ne-eqb _ 0 (c .if4 .left)
+
+condition-taken : (c : Left) (ds : Decisions) → lots (turn-of (over (over-of c))) ≡ classes ds
+    → let d = turn-of (over (over-of c)) in
+    taken ds 1 (conditions (bytes d)) ≡ takes (number d + 1) (conditionAt (bytes d) (number d + 1))
 condition-taken c ds says =
-    let d = turn-of (over c) in
+    let d = turn-of (over (over-of c)) in
     sym (taken-by-map (lots d) (conditions (bytes d)) (found-here (taken-goes (classOf (lots d))) (d .before .conditions .inv .0) (numbered d) (unmet c)) ds says)
     ∙ ap (λ (k : ℕ). takes k (conditionAt (bytes d) k)) (sym (add-one (number d)))
 
-resumes-within : (c : Over) (ds : Decisions) → lots (turn-of (over c)) ≡ classes ds
-    → ResumesWithin (bytes (turn-of (over c))) (number (turn-of (over c)) + 1) (over c .head-at .result .0) ds
-resumes-within c ds says = head-resumes ds _ _ _ (over c .head-at .ensures) (head-within (over c)) (condition-taken c ds says)
+resumes-within : (c : Left) (ds : Decisions) → lots (turn-of (over (over-of c))) ≡ classes ds
+    → ResumesWithin (bytes (turn-of (over (over-of c)))) (number (turn-of (over (over-of c))) + 1) (over (over-of c) .head-at .result .0) ds
+resumes-within c ds says = head-resumes ds _ _ _ (over (over-of c) .head-at .ensures) (head-within (over (over-of c))) (condition-taken c ds says)
 
 same-length-2 : tie.Need-same-length-2 Inv-run μ-run Inv-terms μ-terms Inv-conditions μ-conditions
-same-length-2 c = ap length (c .before .before .terms .inv .1) ∙ turn-of (over c) .before .conditions .inv .2 .sized
+same-length-2 c = ap length (over-of c .before .before .terms .inv .1) ∙ turn-of (over (over-of c)) .before .conditions .inv .2 .sized
 
 returns-2 : tie.Need-returns-2 Inv-run μ-run Inv-terms μ-terms Inv-conditions μ-conditions
 returns-2 c =
-    let inv = turn-of (over c) .before .conditions .inv in
-    let none = c .before .before .terms .inv .1 in
-    (resumes-within c, (head-within (over c), (rw none (inv .1), rw none (inv .2))))
+    let inv = turn-of (over (over-of c)) .before .conditions .inv in
+    let none = over-of c .before .before .terms .inv .1 in
+    (resumes-within c, (head-within (over (over-of c)), (rw none (inv .1), rw none (inv .2))))
 
 pub scan-spec : {M : Type 1} → statement M
 scan-spec =
@@ -435,6 +468,8 @@ scan-spec =
     conditions-again
     head-at-requires
     terms-holds
+    conditions-less-2
+    conditions-again-2
     run-holds
     add-following
     term-at-requires
@@ -444,10 +479,10 @@ scan-spec =
     array-read-shared-2
     mul-levels
     slice-write-levels
-    conditions-less-2
-    conditions-again-2
     conditions-less-3
     conditions-again-3
+    conditions-less-4
+    conditions-again-4
     terms-less
     terms-again
     run-less

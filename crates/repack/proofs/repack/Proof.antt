@@ -41,22 +41,28 @@ accepted : (c : tie.After-reading2)
     → ReadAs (begun c .args .sheet .now) (c .reading2 .given .0 .0) (c .reading2 .given .0 .1 .0) (c .reading2 .given .0 .1 .1 .0)
 accepted c = read-accepts _ _ _ _ (ap readingAnswer (sym (c .reading2 .given .1)) ∙ c .before .before .read .ensures)
 
+count-terms-requires : tie.Need-count-terms-requires
+count-terms-requires c κs =
+    let a = accepted (c .before) in
+    (record { accepted = a .accepted; counted = a .conditions }, a .records)
+
 returns : tie.Need-returns
 returns c =
-    let reading = c .before .before .before in
+    let counted = c .before .before in
+    let reading = counted .before .before in
     let a = accepted reading in
     let start = begun reading in
     let s = start .args .sheet .now in
     let out = start .args .out .now in
-    let length = c .before .length-of .ensures ∙ needed a in
+    let length = c .before .length-of .ensures ∙ needed a (counted .count-terms .ensures) in
     ensured s out (Refuses 16 (repackedLength s)) (output-short s out (a .accepted) (omega (arith, length, c .if1 .taken)))
     (Refused 16 (c .before .length-of .result)) _ (ap (refused 16) length) refl
 
 -- Past the test there is room.
 abbrev past : tie.Else1 → tie.After-reading2
-past c = c .before .before .before
+past c = c .before .before .before .before
 
-fits : (c : tie.Else1) → sheetLength (past c .reading2 .given .0 .1 .0) (past c .reading2 .given .0 .1 .1 .0) ≤ length (begun (past c) .args .out .now)
+fits : (c : tie.Else1) → sheetLength (past c .reading2 .given .0 .1 .0) (c .before .before .count-terms .result) ≤ length (begun (past c) .args .out .now)
 fits c = omega (arith, c .before .length-of .ensures, c .if1 .left)
 
 begin-requires : tie.Need-begin-requires
@@ -67,7 +73,8 @@ add-conditions-requires c κs =
     let begin = c .before .before .before in
     let tested = begin .before .before in
     let a = accepted (past tested) in
-    (record { accepted = a .accepted; counted = a .conditions }, rw (begin .begin .ensures) (counts-room a (begun (past tested) .args .out .now) (fits tested) _))
+    let room = counts-room a (tested .before .before .count-terms .ensures) (begun (past tested) .args .out .now) (fits tested) in
+    (record { accepted = a .accepted; counted = a .conditions }, rw (begin .begin .ensures) (room _))
 
 returns-2 : tie.Need-returns-2
 returns-2 c =
@@ -88,10 +95,11 @@ returns-3 c =
     let start = begun (past tested) in
     let s = start .args .sheet .now in
     let out = start .args .out .now in
-    let length = tested .before .length-of .ensures ∙ needed a in
+    let terms = tested .before .before .count-terms .ensures in
+    let length = tested .before .length-of .ensures ∙ needed a terms in
     let stored = ap (λ (d : Draft). d .bytes) (added .add-conditions .ensures ∙ ap (withConditions (conditions s)) (begin .begin .ensures)) in
-    ensured s out Passes (all-pass s out (a .accepted) (omega (arith, needed a, fits tested)))
-    (Written (tested .before .length-of .result)) _ (ap (λ (n : ℕ). answered n 0 0) length) (stored ∙ counts-whole a out (fits tested))
+    ensured s out Passes (all-pass s out (a .accepted) (omega (arith, needed a terms, fits tested)))
+    (Written (tested .before .length-of .result)) _ (ap (λ (n : ℕ). answered n 0 0) length) (stored ∙ counts-whole a terms out (fits tested))
 
 pub repack-spec : {M : Type 1} → statement M
 repack-spec =
@@ -100,6 +108,7 @@ repack-spec =
     read-requires
     enum-known-reading
     enum-known-reading-2
+    count-terms-requires
     length-of-requires
     cast-if1
     returns

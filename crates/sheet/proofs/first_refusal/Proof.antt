@@ -5,7 +5,7 @@ use mathlib.Core.Path.{_≡_, sym, _∙_}
 use borrow.Author.Needs.{needs}
 use Rattle.sheet.specs.declared.Verdict.the-variants.{Passes}
 use Rattle.sheet.specs.declared.Verdict.{Verdict}
-use Rattle.sheet.specs.Checks.{orElse, firstRefusal, headerChecks, check4, check5, check6, check7, sheetVerdict}
+use Rattle.sheet.specs.Checks.{orElse, firstRefusal, headerChecks, check4, check5, check17And6, check7, sheetVerdict}
 use Rattle.sheet.specs.Inner.{HasHeader}
 use Rattle.sheet.proofs.Verdicts.{passed-on, refused-here}
 use Rattle.sheet.proofs.Accepted.{in-order, header-whole, header-passed}
@@ -14,7 +14,7 @@ use Rattle.sheet.proofs.first_refusal.Tie as tie
 
 -- The verdict of the checks from 4, from 5 and from 6 on.
 abbrev from6 : List ℕ → Verdict
-from6 s = orElse (check6 s) (check7 s)
+from6 s = orElse (check17And6 s) (check7 s)
 
 abbrev from5 : List ℕ → Verdict
 from5 s = orElse (check5 s) (from6 s)

@@ -6,7 +6,7 @@ use lib.ListN.{length}
 use Rattle.sheet.specs.declared.Term.{Term}
 use Rattle.sheet.specs.Conditions.{recordsFrom}
 use Rattle.sheet.proofs.Accepted.{has-record, sound}
-use Rattle.sheet.proofs.ChainEnds.{rest-shorter}
+use Rattle.sheet.proofs.ChainEnds.{on-sound, rest-shorter}
 use Rattle.writer.specs.Drafts.{draft}
 use Rattle.writer.proofs.Adding.{Adding, adding-start, adding-room, adding-next, adding-end}
 use Rattle.writer.proofs.add_chain.Statement.{statement}
@@ -35,14 +35,14 @@ term-at-requires : tie.Need-term-at-requires Inv-loop μ-loop
 term-at-requires c κs =
     let l = c .before .before in
     let can = begun l .pre .0 in
-    rw (can .counted) (has-record (sound (begun l .args .sheet .now) (can .accepted) .header) (l .loop .at .0) (record-number c) (l .loop .inv .within))
+    rw (can .counted) (has-record (sound (begun l .args .sheet .now) (can .accepted) .header) (l .loop .at .0) (record-number c) (l .loop .inv .on .within))
 
 add-term-requires : tie.Need-add-term-requires Inv-loop μ-loop
 add-term-requires c κs =
     let turn = c .before .before in
     let l = turn .before .before in
     let ok = begun l .pre .0 .accepted in (
-      rw (c .before .term-at .ensures) (sound (begun l .args .sheet .now) ok .records (l .loop .at .0) (record-number turn) (l .loop .inv .within) .sign),
+      rw (c .before .term-at .ensures) (on-sound (begun l .args .sheet .now) ok (l .loop .at .0) (record-number turn) (l .loop .inv .on) .sign),
       adding-room (l .loop .inv) ok (record-number turn),
     )
 
@@ -53,7 +53,7 @@ loop-less c =
     let s = begun l .args .sheet .now in
     let r = l .loop .at .0 in
     subst (λ (t : Term). length (recordsFrom s (t .next .0)) < length (recordsFrom s r)) (sym (term .term-at .ensures))
-    (rest-shorter s (begun l .pre .0 .accepted) r (record-number (term .before)) (l .loop .inv .within))
+    (rest-shorter s (begun l .pre .0 .accepted) r (record-number (term .before)) (l .loop .inv .on .within))
 
 loop-again : tie.Need-loop-again Inv-loop μ-loop
 loop-again c =

@@ -6,6 +6,7 @@ use borrow.Author.Needs.{needs}
 use lib.ListN.{length}
 use Rattle.sheet.specs.Conditions.{termsFrom, conditionAt}
 use Rattle.sheet.proofs.Accepted.{sound}
+use Rattle.sheet.proofs.ChainEnds.{head-on}
 use Rattle.writer.specs.Drafts.{Draft, draft, withTerms}
 use Rattle.writer.proofs.Rooms.{room-condition}
 use Rattle.writer.proofs.add_condition.Statement.{statement}
@@ -28,7 +29,7 @@ add-chain-requires c κs =
     let number = start .args .c .0 in
     let before = draft (start .args .out .now) (start .args .w) in (
       start .pre .0,
-      rw (head .head-at .ensures) (sound s (start .pre .0 .accepted) .heads number (start .pre .1) (start .pre .2)),
+      rw (head .head-at .ensures) (head-on s (start .pre .0 .accepted) number (start .pre .1) (start .pre .2)),
       rw (head .head-at .ensures, begun .begin-condition .ensures) (room-condition 0 (length (conditionAt s number)) before (start .pre .3)),
     )
 

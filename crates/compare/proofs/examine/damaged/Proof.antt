@@ -12,14 +12,14 @@ mul-length c = search needs
 returns : tie.Need-returns
 returns c = search needs
 
-slice-relend-prefix-damaged-both : tie.Need-slice-relend-prefix-damaged-both
-slice-relend-prefix-damaged-both c = search needs
+slice-relend-prefix-damaged-all : tie.Need-slice-relend-prefix-damaged-all
+slice-relend-prefix-damaged-all c = search needs
 
-slice-aggregate-damaged-both : tie.Need-slice-aggregate-damaged-both
-slice-aggregate-damaged-both c = sym (length-take-le _ _ (omega arith))
+slice-aggregate-damaged-all : tie.Need-slice-aggregate-damaged-all
+slice-aggregate-damaged-all c = sym (length-take-le _ _ (omega arith))
 
-damaged-both-requires : tie.Need-damaged-both-requires
-damaged-both-requires c κs = search needs
+damaged-all-requires : tie.Need-damaged-all-requires
+damaged-all-requires c κs = search needs
 
 same-length : tie.Need-same-length
 same-length c = search needs
@@ -33,8 +33,8 @@ damaged-spec =
     (tie.spec
     mul-length
     returns
-    slice-relend-prefix-damaged-both
-    slice-aggregate-damaged-both
-    damaged-both-requires
+    slice-relend-prefix-damaged-all
+    slice-aggregate-damaged-all
+    damaged-all-requires
     same-length
     returns-2)

@@ -6,25 +6,16 @@ use Rattle.compare.proofs.groups.generated.Statement.{statement}
 use Rattle.compare.proofs.groups.generated.Tie as tie
 
 abbrev Inv-loop : tie.InvT-loop
-Inv-loop sheet₀ counts₀ state₀ left₀ sheet counts state left = length sheet ≡ length sheet₀
+Inv-loop sheet₀ relinked counts₀ state₀ left₀ sheet counts state left = length sheet ≡ length sheet₀
 
 abbrev μ-loop : tie.MeasureT-loop
-μ-loop sheet₀ counts₀ state₀ left₀ sheet counts state left = left
-
-new-requires : tie.Need-new-requires Inv-loop μ-loop
-new-requires c κs = search needs
-
-new-requires-2 : tie.Need-new-requires-2 Inv-loop μ-loop
-new-requires-2 c κs = search needs
-
-new-group-requires : tie.Need-new-group-requires Inv-loop μ-loop
-new-group-requires c κs = search needs
+μ-loop sheet₀ relinked counts₀ state₀ left₀ sheet counts state left = left
 
 loop-holds : tie.Need-loop-holds Inv-loop μ-loop
 loop-holds c = search needs
 
-sheet-from-requires : tie.Need-sheet-from-requires Inv-loop μ-loop
-sheet-from-requires c κs = search needs
+sheet-after-requires : tie.Need-sheet-after-requires Inv-loop μ-loop
+sheet-after-requires c κs = search needs
 
 examine-start-requires : tie.Need-examine-start-requires Inv-loop μ-loop
 examine-start-requires c κs = search needs
@@ -50,11 +41,8 @@ generated-spec =
     (tie.spec
     Inv-loop
     μ-loop
-    new-requires
-    new-requires-2
-    new-group-requires
     loop-holds
-    sheet-from-requires
+    sheet-after-requires
     examine-start-requires
     sub-left
     loop-less

@@ -14,23 +14,8 @@ abbrev μ-loop : tie.MeasureT-loop
 loop-holds : tie.Need-loop-holds Inv-loop μ-loop
 loop-holds c = search needs
 
-term-field-requires : tie.Need-term-field-requires Inv-loop μ-loop
-term-field-requires c κs = search needs
-
-number-at-requires : tie.Need-number-at-requires Inv-loop μ-loop
-number-at-requires c κs = search needs
-
-with-name-requires : tie.Need-with-name-requires Inv-loop μ-loop
-with-name-requires c κs = search needs
-
-term-field-requires-2 : tie.Need-term-field-requires-2 Inv-loop μ-loop
-term-field-requires-2 c κs = search needs
-
-number-at-requires-2 : tie.Need-number-at-requires-2 Inv-loop μ-loop
-number-at-requires-2 c κs = search needs
-
-with-name-requires-2 : tie.Need-with-name-requires-2 Inv-loop μ-loop
-with-name-requires-2 c κs = search needs
+with-names-of-requires : tie.Need-with-names-of-requires Inv-loop μ-loop
+with-names-of-requires c κs = search needs
 
 sub-r : tie.Need-sub-r Inv-loop μ-loop
 sub-r c = search needs
@@ -54,12 +39,7 @@ name-lots-spec =
     Inv-loop
     μ-loop
     loop-holds
-    term-field-requires
-    number-at-requires
-    with-name-requires
-    term-field-requires-2
-    number-at-requires-2
-    with-name-requires-2
+    with-names-of-requires
     sub-r
     loop-less
     loop-again

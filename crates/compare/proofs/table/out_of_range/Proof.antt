@@ -19,6 +19,9 @@ add-r c = search needs
 in-range-requires : tie.Need-in-range-requires Inv-loop μ-loop
 in-range-requires c κs = search needs
 
+vacant-requires : tie.Need-vacant-requires Inv-loop μ-loop
+vacant-requires c κs = search needs
+
 returns : tie.Need-returns Inv-loop μ-loop
 returns c = search needs
 
@@ -40,6 +43,7 @@ out-of-range-spec =
     loop-holds
     add-r
     in-range-requires
+    vacant-requires
     returns
     loop-less
     loop-again

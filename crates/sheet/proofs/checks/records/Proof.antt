@@ -1,12 +1,12 @@
--- `sheet::checks::records` meets its contract. The loop's invariant: each record before the present one is well formed.
+-- `sheet::checks::records` meets its contract. The loop's invariant: each record before the present one is vacant or well formed.
 -- The measure is how many records are left.
 use Prim.Native.Nat.{ℕ, _+_, _-_, _≤_}
-use mathlib.Core.Bool.{Bool, not}
+use mathlib.Core.Bool.{Bool, not, _||_}
 use mathlib.Core.List.{List}
 use mathlib.Core.Path.{sym, ap, _∙_}
 use native.Mathlib.Omega.{arith}
 use borrow.Author.Needs.{needs}
-use Rattle.sheet.specs.Format.{recordCount}
+use Rattle.sheet.specs.Format.{recordCount, vacant}
 use Rattle.sheet.specs.Checks.{check5, wellFormed}
 use Rattle.sheet.proofs.Loops.{Counting, start, end, refused, passed}
 use Rattle.sheet.proofs.Accepted.{conditions-counted, records-counted, has-record}
@@ -14,7 +14,7 @@ use Rattle.sheet.proofs.checks.records.Statement.{statement}
 use Rattle.sheet.proofs.checks.records.Tie as tie
 
 abbrev badlyFormed : List ℕ → ℕ → Bool
-badlyFormed s r = not (wellFormed s r)
+badlyFormed s r = not (vacant s r || wellFormed s r)
 
 abbrev Inv-loop : tie.InvT-loop
 Inv-loop sheet h k r₀ r = Counting 5 (badlyFormed sheet) (recordCount sheet) r
@@ -29,8 +29,8 @@ in-range c = omega (arith, records-counted (c .before .before .before .pre))
 loop-holds : tie.Need-loop-holds Inv-loop μ-loop
 loop-holds c = start
 
-well-formed-requires : tie.Need-well-formed-requires Inv-loop μ-loop
-well-formed-requires c κs =
+vacant-or-formed-requires : tie.Need-vacant-or-formed-requires Inv-loop μ-loop
+vacant-or-formed-requires c κs =
     let l = c .before in
     let has = l .before .before .pre in
     (has .counts, rw (conditions-counted has) (has-record has (l .loop .r) (l .loop .inv .least) (in-range c)))
@@ -42,7 +42,7 @@ returns : tie.Need-returns Inv-loop μ-loop
 unfolding check5
 returns c =
     let t = c .before .before in
-    refused (t .before .loop .inv) (in-range t) (ap not (sym (c .before .well-formed .ensures)) ∙ c .if1 .taken)
+    refused (t .before .loop .inv) (in-range t) (ap not (sym (c .before .vacant-or-formed .ensures)) ∙ c .if1 .taken)
 
 add-r : tie.Need-add-r Inv-loop μ-loop
 add-r c = search needs
@@ -53,7 +53,7 @@ loop-less c = search needs
 loop-again : tie.Need-loop-again Inv-loop μ-loop
 loop-again c =
     let t = c .before .before in
-    passed (t .before .loop .inv) (in-range t) (ap not (sym (c .before .well-formed .ensures)) ∙ c .if1 .left)
+    passed (t .before .loop .inv) (in-range t) (ap not (sym (c .before .vacant-or-formed .ensures)) ∙ c .if1 .left)
 
 returns-2 : tie.Need-returns-2 Inv-loop μ-loop
 unfolding check5
@@ -68,7 +68,7 @@ records-spec =
     Inv-loop
     μ-loop
     loop-holds
-    well-formed-requires
+    vacant-or-formed-requires
     cast-t8
     returns
     add-r

@@ -4,7 +4,8 @@ use mathlib.Core.List.{List}
 use mathlib.Core.Path.{sym, _∙_}
 use native.Mathlib.Omega.{arith}
 use borrow.Author.Needs.{needs}
-use Rattle.sheet.proofs.Accepted.{records-counted, heads-found, records-found}
+use Rattle.sheet.proofs.Accepted.{records-counted, heads-found}
+use Rattle.sheet.proofs.Walks.{signs-tell, nexts-found}
 use Rattle.sheet.proofs.Flags.{zeros-length, none-flagged}
 use Rattle.sheet.proofs.once.check.Statement.{statement}
 use Rattle.sheet.proofs.once.check.Tie as tie
@@ -31,10 +32,9 @@ reached-once-requires c κs =
     let k : ℕ = a .args .h .records in
     let (has, four, five) = a .pre in (
       record {
-        header = has;
-        room = zeros-length 1024 k (few a) ∙ records-counted has;
+        flaggable = record { header = has; signs = signs-tell s five; room = zeros-length 1024 k (few a) ∙ records-counted has };
         heads = heads-found s four;
-        nexts = λ r low high. records-found s five r low high .next;
+        nexts = nexts-found s five;
       },
       none-flagged 1024 k (few a),
     )

@@ -1,4 +1,4 @@
--- `sheet::once::reached_once` meets its contract: where the walk refuses, check 6 does; where it passes, the flags are what check 7 asks of.
+-- `sheet::once::reached_once` meets its contract: where the walk refuses, check 17 or 6 does; where it passes, the flags are what check 7 asks of.
 use mathlib.Core.Path.{_∙_}
 use borrow.Author.Needs.{needs}
 use Rattle.sheet.proofs.WalkLoops.{walk-refused, walk-passed}
@@ -36,7 +36,7 @@ returns-2 c =
     let a = w .before .before .before .before in
     c .reached .ensures
     ∙ walk-passed (a .args .sheet .now) (t .enum-told2 .given .1) (w .walk .last .1 .1 .0)
-    (w .walk .kept .1 .1 .0 ∙ a .pre .0 .room) (w .walk .ensures)
+    (w .walk .kept .1 .1 .0 ∙ a .pre .0 .flaggable .room) (w .walk .ensures)
 
 pub reached-once-spec : {M : Type 1} → statement M
 reached-once-spec =

@@ -20,7 +20,7 @@ abbrev μ-loop : tie.MeasureT-loop
 
 -- In a turn the condition is one of the sheet's, and its chain's walk is what `walk_chain` says.
 in-range : (c : tie.In-loop Inv-loop μ-loop) → c .before .loop .c ≤ conditionCount (c .before .before .before .before .args .sheet .now)
-in-range c = omega (arith, conditions-counted (c .before .before .before .before .pre .0 .header))
+in-range c = omega (arith, conditions-counted (c .before .before .before .before .pre .0 .flaggable .header))
 
 chain-walked : (c : tie.After-walk-chain Inv-loop μ-loop)
     → let l = c .before .before .before .before in
@@ -33,7 +33,7 @@ chain-walked c =
 loop-holds : tie.Need-loop-holds Inv-loop μ-loop
 loop-holds c =
     let a = c .before .before in
-    none-yet (a .args .sheet .now) (a .pre .0 .room) (a .pre .1)
+    none-yet (a .args .sheet .now) (a .pre .0 .flaggable .room) (a .pre .1)
 
 head-at-requires : tie.Need-head-at-requires Inv-loop μ-loop
 head-at-requires c κs = omega (arith, in-range c)
@@ -43,7 +43,11 @@ walk-chain-requires c κs =
     let t = c .before .before in
     let l = t .before in
     let w = l .before .before .before .pre .0 in (
-      record { header = w .header; room = l .loop .inv .room; heads = w .heads; nexts = w .nexts },
+      record {
+        flaggable = record { header = w .flaggable .header; signs = w .flaggable .signs; room = l .loop .inv .room };
+        heads = w .heads;
+        nexts = w .nexts;
+      },
       rw (c .before .head-at .ensures) (w .heads (l .loop .c) (l .loop .inv .least) (in-range t)),
     )
 
@@ -54,7 +58,7 @@ same-length : tie.Need-same-length Inv-loop μ-loop
 same-length c =
     let w = c .before .before .before .before in
     let l = w .before .before .before .before in
-    w .walk-chain .kept .1 .1 .1 .0 ∙ l .loop .inv .room ∙ sym (l .before .before .before .pre .0 .room)
+    w .walk-chain .kept .1 .1 .1 .0 ∙ l .loop .inv .room ∙ sym (l .before .before .before .pre .0 .flaggable .room)
 
 returns : tie.Need-returns Inv-loop μ-loop
 returns c =
@@ -84,7 +88,7 @@ same-length-2 c = search needs
 returns-2 : tie.Need-returns-2 Inv-loop μ-loop
 returns-2 c =
     let l = c .before in
-    all-walked (l .loop .inv) (omega (arith, conditions-counted (l .before .before .before .pre .0 .header)))
+    all-walked (l .loop .inv) (omega (arith, conditions-counted (l .before .before .before .pre .0 .flaggable .header)))
 
 pub walk-spec : {M : Type 1} → statement M
 walk-spec =

@@ -1,8 +1,8 @@
--- `compare::partitions::condition_met`: the terms left fall.
+-- `compare::partitions::some_term_true`: the terms left fall.
 use borrow.Author.Needs.{needs}
 use Prim.Native.Nat.{_≤_}
-use Rattle.compare.proofs.partitions.condition_met.Statement.{statement}
-use Rattle.compare.proofs.partitions.condition_met.Tie as tie
+use Rattle.compare.proofs.partitions.some_term_true.Statement.{statement}
+use Rattle.compare.proofs.partitions.some_term_true.Tie as tie
 
 abbrev Inv-loop : tie.InvT-loop
 Inv-loop sheet m head names groups r₀ left₀ r left = left ≤ 1024
@@ -40,8 +40,8 @@ loop-again c = search needs
 returns-3 : tie.Need-returns-3 Inv-loop μ-loop
 returns-3 c = search needs
 
-pub condition-met-spec : {M : Type 1} → statement M
-condition-met-spec =
+pub some-term-true-spec : {M : Type 1} → statement M
+some-term-true-spec =
     tie.close
     (tie.spec
     Inv-loop
