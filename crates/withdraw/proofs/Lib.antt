@@ -1,0 +1,5 @@
+mod Zeroed
+mod Walking
+mod Chains
+pub mod Withdraw
+pub mod Meaning

@@ -1,0 +1,3 @@
+pub mod Withdraw
+pub mod Others
+mod Examples
