@@ -1,7 +1,7 @@
 //! The evaluator of groupings, and check 8.
 use crate::answer::{Answer, Refusal, refuse};
 use crate::reader::accept;
-use crate::sheet::{Sheet, Sign, Term};
+use crate::sheet::{Sheet, Sign, Term, is_withdrawn};
 
 /// "It answers 0 if all conditions are met, else the lowest condition that isn't."
 pub fn evaluate(bytes: &[u8], grouping: &[u8]) -> Result<Answer, Refusal> {
@@ -23,9 +23,9 @@ pub fn long_enough(sheet: &Sheet, grouping: &[u8]) -> Result<(), Refusal> {
     Ok(())
 }
 
-/// "A condition is met when some term is true".
+/// "A condition is met when some term is true". Document 02, of a withdrawn condition: "every numbering meets it".
 pub fn is_met(condition: &[Term], grouping: &[u8]) -> bool {
-    condition.iter().any(|term| is_true(term, grouping))
+    is_withdrawn(condition) || condition.iter().any(|term| is_true(term, grouping))
 }
 
 /// ""same a b" is true when the two numbers are equal, "apart a b" when they differ", "lot i having byte i − 1 as its number".

@@ -1,5 +1,5 @@
 //! One node of the search: decisions, classes, the truth of a term, and what the node is.
-use crate::sheet::{Lot, Sheet, Sign, Term};
+use crate::sheet::{Lot, Sheet, Sign, Term, is_withdrawn};
 
 /// "A node has a list of decisions: pairs set same and pairs set apart."
 #[derive(Clone, Copy, Debug, PartialEq, Eq)]
@@ -89,13 +89,17 @@ impl Known {
         }
     }
 
-    /// "every term of its condition is false by the node rules". A condition with no term has no term that isn't.
-    pub fn all_false(&self, condition: &[Term]) -> bool {
-        condition.iter().all(|term| self.truth(term) == Truth::False)
+    /// "A ground passes when every term of its condition is false by the node rules under that path." Document 02, of a withdrawn condition: "a ground naming
+    /// it is refused by 12".
+    pub fn ground_passes(&self, condition: &[Term]) -> bool {
+        !is_withdrawn(condition) && condition.iter().all(|term| self.truth(term) == Truth::False)
     }
 
-    /// "has no true term and no open "apart" term"
+    /// "has no true term and no open "apart" term". Document 02, of a withdrawn condition: "the search passes it over".
     fn is_taken(&self, condition: &[Term]) -> bool {
+        if is_withdrawn(condition) {
+            return false;
+        }
         let truths = || condition.iter().map(|term| (term.sign, self.truth(term)));
         !truths().any(|(_, truth)| truth == Truth::True) && !truths().any(|found| found == (Sign::Apart, Truth::Open))
     }

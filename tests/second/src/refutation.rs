@@ -85,10 +85,10 @@ impl Walk<'_> {
         self.not_missing(number + 1)
     }
 
-    /// 12: "a term isn't false", place the record. 13: "the split's next is wrong", place the split.
+    /// 12: "a term isn't false", or the condition is withdrawn, place the record. 13: "the split's next is wrong", place the split.
     fn ground(&mut self, number: usize, record: &Record) -> Result<Step, Refusal> {
         let known = Known::from(self.sheet.lots, &self.decisions());
-        if !known.all_false(&self.sheet.conditions[usize::from(record.first) - 1]) {
+        if !known.ground_passes(&self.sheet.conditions[usize::from(record.first) - 1]) {
             return refuse(12, number);
         }
         // "After a ground, the nearest split above it still in its equal branch": those below it are over.

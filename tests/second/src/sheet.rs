@@ -19,7 +19,14 @@ pub struct Term {
 #[derive(Clone, Debug, PartialEq, Eq)]
 pub struct Sheet {
     pub lots: usize,
-    pub terms: usize,
+    /// The term records, of which some may be vacant: "k, read or printed, still counts them".
+    pub records: usize,
     /// Condition c is entry c - 1. A condition with head zero has no term.
     pub conditions: Vec<Vec<Term>>,
+}
+
+/// Document 02: "A zero head therefore means struck". A head that isn't zero leads to a term, so the withdrawn conditions of an accepted sheet are those with
+/// no term.
+pub fn is_withdrawn(condition: &[Term]) -> bool {
+    condition.is_empty()
 }

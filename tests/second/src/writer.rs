@@ -1,4 +1,4 @@
-//! The bytes of a sheet: canonical, in the order of document 02's job 1, or for tests with the records in any order.
+//! The bytes of a sheet: canonical, in the order of document 02's job 1, or for tests with the records in any order and vacant ones among them.
 use crate::limits::{APART, SAME, TERM_LENGTH};
 use crate::sheet::{Sign, Term};
 
@@ -10,7 +10,8 @@ pub fn apart(a: usize, b: usize) -> Term {
     Term { sign: Sign::Apart, a, b }
 }
 
-/// "Fix the order: the records of condition 1 first, in chain order, then condition 2, and so on, each chain running through neighbouring numbers."
+/// "Fix the order: the records of condition 1 first, in chain order, then condition 2, and so on, each chain running through neighbouring numbers." There is a
+/// record for each term and no other, and a withdrawn condition's head is zero.
 pub fn sheet_bytes(lots: usize, conditions: &[Vec<Term>]) -> Vec<u8> {
     let terms = conditions.iter().map(Vec::len).sum();
     let order: Vec<usize> = (1..=terms).collect();
@@ -19,8 +20,13 @@ pub fn sheet_bytes(lots: usize, conditions: &[Vec<Term>]) -> Vec<u8> {
 
 /// The sheet whose i-th term, in the order of the conditions and their terms, has the record number `order[i - 1]`.
 pub fn sheet_bytes_in(lots: usize, conditions: &[Vec<Term>], order: &[usize]) -> Vec<u8> {
+    sheet_bytes_among(lots, conditions, order, order.len())
+}
+
+/// As `sheet_bytes_in`, with so many records in all: a record that no term has is vacant.
+pub fn sheet_bytes_among(lots: usize, conditions: &[Vec<Term>], order: &[usize], count: usize) -> Vec<u8> {
     let mut heads = Vec::new();
-    let mut records = vec![[0u8; TERM_LENGTH]; order.len()];
+    let mut records = vec![[0u8; TERM_LENGTH]; count];
     let mut passed = 0;
     for condition in conditions {
         heads.push(if condition.is_empty() { 0 } else { order[passed] });
@@ -31,7 +37,7 @@ pub fn sheet_bytes_in(lots: usize, conditions: &[Vec<Term>], order: &[usize]) ->
         passed += condition.len();
     }
     let mut bytes = Vec::new();
-    for number in [lots, conditions.len(), order.len()].into_iter().chain(heads) {
+    for number in [lots, conditions.len(), count].into_iter().chain(heads) {
         bytes.extend_from_slice(&two_bytes(number));
     }
     bytes.extend(records.iter().flatten());

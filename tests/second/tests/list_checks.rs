@@ -81,6 +81,19 @@ fn a_term_that_is_not_false() {
 }
 
 #[test]
+fn a_ground_that_names_a_withdrawn_condition() {
+    // The search's own refutation of sheet A, with a withdrawn condition behind it, passes; a ground that names that one does not.
+    let sheet = sheet_bytes(3, &[conditions(), vec![vec![]]].concat());
+    assert_eq!(check(&sheet, &list_bytes(&list())), Ok(Answer::Passes));
+    for number in [3, 4, 5] {
+        assert_eq!(check(&sheet, &list_bytes(&with(number, ground(4)))), Err(Refusal { check: 12, place: number }));
+    }
+    assert_eq!(check(&sheet_bytes(0, &[vec![]]), &list_bytes(&[ground(1)])), Err(Refusal { check: 12, place: 1 }));
+    // Its number is in range, and 11 looks at nothing else of it.
+    assert_eq!(check(&sheet, &list_bytes(&with(4, ground(5)))), Err(Refusal { check: 11, place: 4 }));
+}
+
+#[test]
 fn the_split_s_next() {
     refused(&with(2, split(2, 3, 5)), 13, 2);
     refused(&with(1, split(1, 2, 0)), 13, 1);

@@ -1,7 +1,7 @@
-//! Document 02's job 1: canonical bytes and check 16, each by hand.
+//! Document 02's jobs 1 and 2: canonical bytes and check 16, each by hand.
 use second::answer::{Answer, numbers};
 use second::sheet::Term;
-use second::writer::{apart, same, sheet_bytes, sheet_bytes_in};
+use second::writer::{apart, same, sheet_bytes, sheet_bytes_among, sheet_bytes_in};
 use second::{Refusal, read, repack};
 
 const FILL: u8 = 0xA7;
@@ -60,6 +60,40 @@ fn a_head_of_zero_stays_in_its_place() {
     assert_eq!(canonical(&sheet), expected);
 }
 
+/// Sheet C with condition 1 withdrawn: its two records are vacant.
+const C_WITHDRAWN: [u8; 34] = [3, 0, 2, 0, 3, 0, 0, 0, 3, 0, 0, 0, 0, 0, 0, 0, 0, 0, 0, 0, 0, 0, 0, 0, 0, 0, 2, 0, 1, 0, 2, 0, 0, 0];
+
+#[test]
+fn vacant_records_are_dropped() {
+    let expected = [3, 0, 2, 0, 1, 0, 0, 0, 1, 0, 2, 0, 1, 0, 2, 0, 0, 0];
+    assert_eq!(canonical(&C_WITHDRAWN), expected);
+    assert_eq!(canonical(&expected), expected);
+    let no_conditions = [&[5, 0, 0, 0, 2, 0], [0; 16].as_slice()].concat();
+    assert_eq!(canonical(&no_conditions), [5, 0, 0, 0, 0, 0]);
+    // 16's place is the packed length, and an output of that length is enough.
+    (0..18).for_each(|room| refused(&C_WITHDRAWN, room, 16, 18));
+    let mut out = [FILL; 18];
+    assert_eq!(numbers(&repack(&C_WITHDRAWN, &mut out)), [0, 18, 0, 0]);
+    assert_eq!(out, expected);
+}
+
+#[test]
+fn vacant_records_between_the_others_change_no_canonical_byte() {
+    for order in [[1, 2, 3], [2, 4, 6], [6, 4, 5], [4, 1, 6]] {
+        assert_eq!(canonical(&sheet_bytes_among(3, &sheet_c(), &order, 6)), C, "{order:?}");
+    }
+}
+
+#[test]
+fn withdrawn_places_tell_sheets_apart() {
+    let placed = |at: usize| {
+        let mut conditions = sheet_c();
+        conditions.insert(at, vec![]);
+        canonical(&sheet_bytes(3, &conditions))
+    };
+    assert!(placed(0) != placed(1) && placed(1) != placed(2) && placed(0) != placed(2));
+}
+
 #[test]
 fn record_numbers_above_255_have_two_bytes() {
     let backwards: Vec<usize> = (1..=1024).rev().collect();
@@ -111,5 +145,6 @@ fn checks_of_the_sheet_come_first() {
         refused(&changed(10, 3), room, 5, 1);
         refused(&changed(16, 1), room, 6, 1);
         refused(&changed(8, 0), room, 7, 3);
+        refused(&[&C_WITHDRAWN[..6], &[1], &C_WITHDRAWN[7..]].concat(), room, 17, 1);
     }
 }

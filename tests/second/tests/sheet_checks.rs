@@ -1,4 +1,4 @@
-//! Checks 1 to 9 of document 01's table, each by hand, and the order in which they run.
+//! Checks 1 to 9 of document 01's table and 17 of document 02, each by hand, and the order in which they run.
 use second::answer::{Answer, numbers};
 use second::writer::{apart, same, sheet_bytes};
 use second::{Refusal, evaluate, read, search};
@@ -76,6 +76,64 @@ fn a_record_never_reached() {
     refused(&with(&[(6, 2), (16, 1)]), 7, 1);
 }
 
+/// The sheet with these heads, and with these records blanked.
+fn blanked(heads: [u8; 2], records: &[usize]) -> Vec<u8> {
+    let mut bytes = with(&[(6, heads[0]), (8, heads[1])]);
+    records.iter().for_each(|record| bytes[2 + 8 * record..10 + 8 * record].fill(0));
+    bytes
+}
+
+#[test]
+fn vacant_records_are_passed_over_and_counted() {
+    assert_eq!(numbers(&read(&blanked([1, 0], &[3]))), [0, 2, 2, 3]);
+    assert_eq!(numbers(&read(&blanked([0, 3], &[1, 2]))), [0, 2, 2, 3]);
+    assert_eq!(numbers(&read(&blanked([0, 0], &[1, 2, 3]))), [0, 2, 2, 3]);
+    let no_conditions = [&[0, 0, 0, 0, 2, 0], [0; 16].as_slice()].concat();
+    assert_eq!(numbers(&read(&no_conditions)), [0, 0, 0, 2]);
+    // k counts them in checks 3, 4 and 5 too.
+    refused(&no_conditions[..14], 3, 0);
+    let last_is_vacant = |head: u8, next: u8| [&[1, 0, 1, 0, 3, 0, head, 0, 1, 0, 1, 0, 1, 0, next, 0], [0; 16].as_slice()].concat();
+    assert_eq!(numbers(&read(&last_is_vacant(1, 0))), [0, 1, 1, 3]);
+    refused(&last_is_vacant(4, 0), 4, 1);
+    refused(&last_is_vacant(1, 4), 5, 1);
+    refused(&last_is_vacant(1, 3), 17, 3);
+}
+
+#[test]
+fn a_vacant_record_is_zero_in_all_eight_bytes() {
+    for at in 26..34 {
+        let mut bytes = blanked([1, 0], &[3]);
+        bytes[at] = 1;
+        refused(&bytes, 5, 3);
+    }
+}
+
+#[test]
+fn a_zero_head_whose_records_are_left() {
+    refused(&blanked([0, 3], &[]), 7, 1);
+    refused(&blanked([0, 3], &[1]), 7, 2);
+    refused(&blanked([0, 0], &[1, 2]), 7, 3);
+}
+
+#[test]
+fn a_chain_into_a_vacant_record() {
+    refused(&blanked([1, 3], &[3]), 17, 3);
+    refused(&blanked([1, 3], &[2]), 17, 2);
+    refused(&blanked([1, 3], &[1, 3]), 17, 1);
+    // The walk goes by condition, and 17 comes before 6 at one record, not before 6 at an earlier one.
+    let mut reached_again_first = blanked([1, 3], &[3]);
+    reached_again_first[24] = 1;
+    refused(&reached_again_first, 6, 1);
+    let mut vacant_first = blanked([1, 2], &[3]);
+    vacant_first[24] = 3;
+    refused(&vacant_first, 17, 3);
+    // 17 comes before 7, and after 5.
+    refused(&blanked([0, 3], &[3]), 17, 3);
+    let mut malformed = blanked([1, 3], &[2]);
+    malformed[26] = 3;
+    refused(&malformed, 5, 3);
+}
+
 #[test]
 fn grouping_too_short() {
     let eight = Err(Refusal { check: 8, place: 2 });
@@ -93,5 +151,6 @@ fn store_full() {
 fn evaluator() {
     assert_eq!(evaluate(&sheet(), &[0, 255]), Ok(Answer::NotMet { condition: 1 }));
     assert_eq!(evaluate(&sheet(), &[255, 255, 0]), Ok(Answer::NotMet { condition: 2 }));
-    assert_eq!(evaluate(&sheet_bytes(0, &[vec![]]), &[]), Ok(Answer::NotMet { condition: 1 }));
+    assert_eq!(evaluate(&sheet_bytes(0, &[vec![]]), &[]), Ok(Answer::AllMet));
+    assert_eq!(evaluate(&sheet_bytes(1, &[vec![], vec![apart(1, 1)]]), &[7]), Ok(Answer::NotMet { condition: 2 }));
 }

@@ -1,4 +1,4 @@
-//! Every sheet of document 01's "Sheets to try".
+//! Every sheet of document 01's "Sheets to try"; that with a zero head as document 02 turns it.
 use second::answer::Answer;
 use second::sheet::Term;
 use second::store::{Record, list_bytes};
@@ -90,7 +90,8 @@ fn sheet_d() {
 #[test]
 fn the_small_ones() {
     met_by(0, &[], &[met()], &[]);
-    cannot(0, &[vec![]], &[ground(1)]);
+    // Document 02: "The starred sheet with one zero head becomes met, 1."
+    met_by(0, &[vec![]], &[met()], &[]);
     met_by(1, &[vec![same(1, 1)]], &[met()], &[1]);
     cannot(1, &[vec![apart(1, 1)]], &[ground(1)]);
 }
