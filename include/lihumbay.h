@@ -4,8 +4,9 @@
    Buffers. Each is a pointer and then its length in bytes. A pointer is not null, also where the length is 0. Bytes need no alignment. A buffer that is
    written (grouping and store of a search, output of the repacker) overlaps no other buffer of the call; buffers that are only read may overlap each other.
 
-   Limits. A sheet has at most 128 lots, 256 conditions and 1,024 term records, so at most 8,710 bytes. A record of a store or list has 8 bytes; a store holds
-   its length divided by 8, rounded down, at most 65,535 records; a list has at most 65,535. Nothing has to be checked beforehand: what is wrong is refused.
+   Limits. A sheet has at most 128 lots, 256 conditions and 1,024 term records, vacant ones included, so at most 8,710 bytes. A record of a store or list has 8
+   bytes; a store holds its length divided by 8, rounded down, at most 65,535 records; a list has at most 65,535. Nothing has to be checked beforehand: what is
+   wrong is refused.
 
    Threads. A call reads and writes only what it is lent, and its own stack: any number of calls may run at once as long as none writes what another uses. No
    call allocates, blocks, or touches a global.
@@ -22,24 +23,27 @@ extern "C" {
 #endif
 
 /* An answer. `check` is 0, and the others are the values that the service gives, 0 where it has none; or `check` is the number of the check that refused, the
-   first in the table that fails, `first` is its place, and the others are 0.
+   first that fails in the order of docs/FORMAT.md, `first` is its place, and the others are 0.
 
        1  fewer than 6 bytes                                            0
        2  lots, conditions or term records above the most               1, 2 or 3
        3  the sheet's length is wrong                                   0
        4  a condition's first record is above the number of records     the condition
-       5  a term record is malformed                                    the record
+       5  a term record that isn't vacant is malformed                  the record
        6  a term record is reached a second time                        the record
-       7  a term record is never reached                                the record
+       7  a term record that isn't vacant is never reached              the record
        8  the grouping has fewer bytes than the sheet has lots          the lots
        9  the store is full                                             the records it holds
       10  the list's length is 0, no multiple of 8, or too great        0
       11  a record of the list is malformed                             the record
-      12  a term of the ground's condition isn't false                  the record
+      12  the ground's condition is withdrawn, or a term isn't false    the record
       13  the split's next isn't the record where its second branch begins   the split
       14  a record is left over, or the next one is missing             its number
       15  1,024 splits stand above the split                            the record
-      16  the output is shorter than the packed sheet                   the packed sheet's length */
+      16  the output is shorter than the packed sheet                   the packed sheet's length
+      17  a vacant record is reached                                    the record
+
+   A condition whose head is zero is withdrawn, and everything meets it. A term record of eight zero bytes is vacant: it belongs to no condition. */
 typedef struct {
     uint32_t check;
     uint32_t first;
@@ -47,10 +51,10 @@ typedef struct {
     uint32_t third;
 } lihumbay_numbers;
 
-/* The reader: lots, conditions, term records. Checks 1 to 7. */
+/* The reader: lots, conditions, term records, vacant ones included. Checks 1 to 7 and 17. */
 lihumbay_numbers lihumbay_read(const uint8_t *sheet, size_t sheet_length);
 
-/* The search: 1 met or 2 cannot be met, then the count of records, then 0. Checks 1 to 9.
+/* The search: 1 met or 2 cannot be met, then the count of records, then 0. Checks 1 to 9 and 17.
    Met: the first bytes of the grouping, one for each lot, are written: the smallest lot of its class.
    Met or cannot: the first 8 * count bytes of the store are written, one record for each node in the order of visit. Cannot: they are a refutation.
    Check 9, store full: the first 8 * `first` bytes of the store are zero.
@@ -58,17 +62,18 @@ lihumbay_numbers lihumbay_read(const uint8_t *sheet, size_t sheet_length);
 lihumbay_numbers lihumbay_search(const uint8_t *sheet, size_t sheet_length, uint8_t *grouping, size_t grouping_length, uint8_t *store, size_t store_length);
 
 /* The evaluator: 0 where the grouping meets every condition, else the lowest condition that it doesn't meet; then 0, 0. Lot i has byte i - 1 of the grouping as
-   its number. Checks 1 to 8. */
+   its number. Checks 1 to 8 and 17. */
 lihumbay_numbers lihumbay_evaluate(const uint8_t *sheet, size_t sheet_length, const uint8_t *grouping, size_t grouping_length);
 
 /* The refutation checker: 0, 0, 0 where the list, records from any hand, is a refutation of the sheet; then nobody can meet the sheet. The search's own is the
-   first 8 * count bytes of its store where it answers 2. Checks 1 to 7 and 10 to 15. */
+   first 8 * count bytes of its store where it answers 2. Checks 1 to 7, 10 to 15 and 17. */
 lihumbay_numbers lihumbay_check(const uint8_t *sheet, size_t sheet_length, const uint8_t *list, size_t list_length);
 
-/* The repacker: the bytes written, then 0, 0. Checks 1 to 7 and 16; an output of 8,710 bytes is never too short.
+/* The repacker: the bytes written, then 0, 0. Checks 1 to 7, 16 and 17; an output as long as the sheet is never too short, nor is one of 8,710 bytes.
    The first `first` bytes of out are written: the sheet with the records of condition 1 first, in the order of its chain, then those of condition 2, and so on.
-   Sheets with equal lots and equal conditions give equal bytes, two that differ never do, and a packed sheet changes no byte. Reader, search, evaluator and
-   checker answer the packed sheet as they answer the sheet.
+   Vacant records are dropped, and withdrawn conditions keep their places. Sheets with equal lots and equal conditions, the same of them withdrawn, give equal
+   bytes, two that differ never do, and a packed sheet changes no byte. Reader, search, evaluator and checker answer the packed sheet as they answer the sheet,
+   except for the reader's number of term records, which has no vacant ones to count.
    No other byte of out is written, and on a refusal none is. */
 lihumbay_numbers lihumbay_repack(const uint8_t *sheet, size_t sheet_length, uint8_t *out, size_t out_length);
 

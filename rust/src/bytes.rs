@@ -1,5 +1,5 @@
 //! The bytes of a sheet, and the way back.
-use crate::limits::{HEAD_LENGTH, HEADER_LENGTH, TERM_LENGTH, sheet_length};
+use crate::limits::{HEAD_LENGTH, HEADER_LENGTH, sheet_length};
 use crate::refusal::Refusal;
 use crate::services::read;
 use crate::sheet::Sheet;
@@ -10,7 +10,8 @@ const SIGN_APART: u8 = 2;
 
 impl Sheet {
     /// The canonical bytes: the records of condition 1 first, in order, then those of condition 2, and so on, so that each chain runs through neighbouring
-    /// records. Two sheets have the same bytes only if they are the same. [`repack`](crate::repack) writes them from bytes in another order.
+    /// records; a withdrawn condition has head zero, and no record is vacant. Two sheets have the same bytes only if they are the same.
+    /// [`repack`](crate::repack) writes them from bytes in another order.
     ///
     /// ```
     /// let sheet: lihumbay::Sheet = "apart 1 2".parse()?;
@@ -40,7 +41,7 @@ impl Sheet {
         bytes
     }
 
-    /// The sheet of bytes with their records in any order, once the reader has accepted them.
+    /// The sheet of bytes with their records in any order, vacant ones among them, once the reader has accepted them.
     ///
     /// ```
     /// use lihumbay::{Sheet, Term};
@@ -50,30 +51,44 @@ impl Sheet {
     /// ```
     pub fn from_bytes(bytes: &[u8]) -> Result<Sheet, Refusal> {
         let reading = read(bytes)?;
-        let (lots, conditions) = (two_at(bytes, 0), reading.conditions as usize);
-        let records = &bytes[HEADER_LENGTH + HEAD_LENGTH * conditions..];
-        let heads = (0..conditions).map(|condition| two_at(bytes, HEADER_LENGTH + HEAD_LENGTH * condition));
-        let conditions = heads.map(|head| Chain { records, next: head }.collect::<Vec<_>>().into()).collect();
-        Ok(Sheet::accepted(lots, conditions))
+        let condition = |number| Chain::of(bytes, reading.conditions, number).map(|at| term_at(bytes, at)).collect::<Vec<_>>().into();
+        Ok(Sheet::accepted(two_at(bytes, 0), (1..=reading.conditions).map(condition).collect()))
     }
 }
 
-/// The terms of a chain of an accepted sheet: it ends, and each of its records is there.
-struct Chain<'a> {
-    records: &'a [u8],
+/// Where a condition's head stands in a sheet's bytes.
+pub(crate) fn head_place(condition: u32) -> usize {
+    HEADER_LENGTH + HEAD_LENGTH * (condition as usize - 1)
+}
+
+/// Where the records of a condition's chain stand in the bytes of an accepted sheet: the chain ends, and each of its records is there.
+pub(crate) struct Chain<'a> {
+    sheet: &'a [u8],
+    conditions: u32,
     next: u16,
 }
 
-impl Iterator for Chain<'_> {
-    type Item = Term;
-
-    fn next(&mut self) -> Option<Term> {
-        let index = usize::from(self.next).checked_sub(1)?;
-        let record = &self.records[TERM_LENGTH * index..][..TERM_LENGTH];
-        let (a, b) = (two_at(record, 2), two_at(record, 4));
-        self.next = two_at(record, 6);
-        Some(if record[0] == SIGN_SAME { Term::Same(a, b) } else { Term::Apart(a, b) })
+impl<'a> Chain<'a> {
+    /// The chain of a condition, of a sheet that has so many.
+    pub fn of(sheet: &'a [u8], conditions: u32, condition: u32) -> Self {
+        Chain { sheet, conditions, next: two_at(sheet, head_place(condition)) }
     }
+}
+
+impl Iterator for Chain<'_> {
+    type Item = usize;
+
+    fn next(&mut self) -> Option<usize> {
+        let index = usize::from(self.next).checked_sub(1)?;
+        let at = sheet_length(self.conditions as usize, index);
+        self.next = two_at(self.sheet, at + 6);
+        Some(at)
+    }
+}
+
+fn term_at(sheet: &[u8], at: usize) -> Term {
+    let (a, b) = (two_at(sheet, at + 2), two_at(sheet, at + 4));
+    if sheet[at] == SIGN_SAME { Term::Same(a, b) } else { Term::Apart(a, b) }
 }
 
 fn push_term(bytes: &mut Vec<u8>, term: Term, next: usize) {
@@ -113,7 +128,15 @@ mod tests {
     }
 
     #[test]
-    fn a_condition_with_no_term_has_head_zero() {
+    fn vacant_records_are_not_in_the_sheet() {
+        let bytes = [1, 0, 2, 0, 3, 0, 0, 0, 2, 0, 0, 0, 0, 0, 0, 0, 0, 0, 2, 0, 1, 0, 1, 0, 0, 0, 0, 0, 0, 0, 0, 0, 0, 0];
+        let sheet = Sheet::from_bytes(&bytes).unwrap();
+        assert_eq!((sheet.conditions()[0].terms(), sheet.conditions()[1].terms()), ([].as_slice(), [Term::Apart(1, 1)].as_slice()));
+        assert_eq!(sheet.to_bytes(), [1, 0, 2, 0, 1, 0, 0, 0, 1, 0, 2, 0, 1, 0, 1, 0, 0, 0]);
+    }
+
+    #[test]
+    fn a_withdrawn_condition_has_head_zero() {
         let mut builder = SheetBuilder::new(1).unwrap();
         builder.condition([]).unwrap().condition([Term::Apart(1, 1)]).unwrap();
         let bytes = builder.finish().to_bytes();

@@ -1,9 +1,9 @@
 //! A verified solver for equality conditions: safe functions over the proved services.
 //!
-//! A *sheet* has lots 1 to n and conditions, each a choice of terms "lots a and b the same" or "lots a and b apart". Five services take its bytes:
-//! [`read`] accepts or refuses them, [`search`] finds a grouping that meets every condition or a refutation, [`check`] checks a refutation from any hand,
-//! [`evaluate`] says whether a grouping meets the sheet, and [`repack`] puts the records in order, so that equal lots and conditions are equal bytes. What they answer
-//! is proved; the types here only give the numbers and bytes their names.
+//! A *sheet* has lots 1 to n and conditions, each a choice of terms "lots a and b the same" or "lots a and b apart", or withdrawn. Five services take its
+//! bytes: [`read`] accepts or refuses them, [`search`] finds a grouping that meets every condition or a refutation, [`check`] checks a refutation from any
+//! hand, [`evaluate`] says whether a grouping meets the sheet, and [`repack`] puts the records in order, so that equal lots and conditions are equal bytes.
+//! What they answer is proved; the types here only give the numbers and bytes their names.
 //!
 //! ```
 //! use lihumbay::{SheetBuilder, Term, Verdict};
@@ -23,7 +23,8 @@
 //! # Ok::<(), Box<dyn std::error::Error>>(())
 //! ```
 //!
-//! Sheets also have a text form, [`Sheet`]'s `FromStr` and `Display`. [`raw`] has the services with their numbers as the archive gives them.
+//! [`withdraw`] takes a condition out of a sheet's bytes, so that the others keep their numbers. Sheets also have a text form, [`Sheet`]'s `FromStr` and
+//! `Display`. [`raw`] has the services with their numbers as the archive gives them.
 #![warn(missing_debug_implementations, missing_docs)]
 
 mod bytes;
@@ -43,6 +44,7 @@ mod term;
 mod text;
 mod text_error;
 mod walk;
+mod withdraw;
 
 pub use grouping::Grouping;
 pub use limits::*;
@@ -57,3 +59,4 @@ pub use sheet::{LimitError, Sheet, SheetBuilder};
 pub use term::{Condition, Term};
 pub use text_error::TextError;
 pub use walk::{Above, Branch, Step, Walk};
+pub use withdraw::{WithdrawError, withdraw};

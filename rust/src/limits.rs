@@ -6,7 +6,7 @@ pub const MOST_LOTS: usize = 128;
 pub const LOWEST_LOT: u16 = 1;
 /// The most conditions of a sheet.
 pub const MOST_CONDITIONS: usize = 256;
-/// The most terms of a sheet, over all conditions.
+/// The most terms of a sheet, over all conditions, and the most term records, vacant ones included.
 pub const MOST_TERMS: usize = 1024;
 /// The most records that a store or a list can have.
 pub const MOST_RECORDS: usize = 65_535;

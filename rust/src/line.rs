@@ -1,6 +1,6 @@
 //! One line of a sheet's text: its words with their columns, and what they say.
 use crate::sheet::SheetBuilder;
-use crate::term::{APART, NEVER, OR, SAME, Term};
+use crate::term::{APART, OR, SAME, Term, WITHDRAWN};
 use crate::text_error::TextError;
 use std::iter::Peekable;
 use std::vec::IntoIter;
@@ -9,6 +9,10 @@ const COMMENT: char = '#';
 const OR_WORD: &str = "|";
 const TERM: &str = "a term should stand here: `same` or `apart`, and two lots";
 const END: &str = "the end of the line should stand here";
+/// A word that a text may have for what nothing meets. It is not taken for a condition with no term, which everything meets.
+const NEVER: &str = "never";
+const NOT_NEVER: &str =
+    "this is no condition; what nothing meets is `apart 1 1`, and a condition with no term, which everything meets, is `withdrawn`";
 
 /// A condition as written, with the columns of its parts.
 pub(crate) struct Written {
@@ -81,12 +85,15 @@ impl<'a> Line<'a> {
         SheetBuilder::new(lots).map_err(|limit| TextError { line: self.number, column, why: limit.reason() })
     }
 
-    /// `never`, or terms parted by `|`.
+    /// `withdrawn`, or terms parted by `|`.
     pub fn condition(&mut self) -> Result<Written, TextError> {
         let mut condition = Written { line: self.number, column: self.column(), terms: Vec::new() };
-        if self.passed(NEVER) {
+        if self.passed(WITHDRAWN) {
             self.end(END)?;
             return Ok(condition);
+        }
+        if self.peek() == Some(NEVER) {
+            return Err(self.unexpected(NOT_NEVER));
         }
         loop {
             condition.terms.push(self.term()?);

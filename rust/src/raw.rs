@@ -30,7 +30,7 @@ unsafe extern "C" {
     fn lihumbay_repack(sheet: *const u8, sheet_length: usize, out: *mut u8, out_length: usize) -> Numbers;
 }
 
-/// The reader: lots, conditions, terms.
+/// The reader: lots, conditions, term records.
 pub fn read(sheet: &[u8]) -> Numbers {
     // SAFETY: a slice's pointer isn't null and has the slice's length.
     unsafe { lihumbay_read(sheet.as_ptr(), sheet.len()) }

@@ -83,11 +83,12 @@ const TABLE: &[Row] = &[
         Place::ListRecord,
         "a record's kind, spare byte, lot or condition is out of range, or a ground's unused field isn't 0",
     ),
-    row(12, Subject::List, Place::ListRecord, "a ground's condition has a term that isn't false there"),
+    row(12, Subject::List, Place::ListRecord, "a ground's condition is withdrawn, or has a term that isn't false there"),
     row(13, Subject::List, Place::ListRecord, "a split's next isn't the record where its apart branch begins"),
     row(14, Subject::List, Place::ListRecord, "a record is left over, or missing"),
     row(15, Subject::List, Place::ListRecord, "too many splits stand above a split"),
     row(16, Subject::Output, Place::Bytes, "the output is shorter than the packed sheet"),
+    row(17, Subject::Sheet, Place::TermRecord, "a vacant record is reached from a condition"),
 ];
 
 const _: () = assert!(HEADER_LENGTH == 6, "check 1's sentence names the length");
@@ -169,7 +170,7 @@ mod tests {
 
     #[test]
     fn the_table_has_each_check_once_in_order() {
-        assert!(TABLE.iter().map(|row| row.number).eq(1..=16));
+        assert!(TABLE.iter().map(|row| row.number).eq(1..=17));
     }
 
     #[test]
@@ -180,6 +181,7 @@ mod tests {
         assert_eq!(text(9, 0), "check 9, the store is full: records 0");
         assert_eq!(text(14, 6), "check 14, a record is left over, or missing: record 6");
         assert_eq!(text(16, 34), "check 16, the output is shorter than the packed sheet: bytes 34");
+        assert_eq!(text(17, 2), "check 17, a vacant record is reached from a condition: record 2");
     }
 
     #[test]

@@ -4,8 +4,8 @@ use crate::raw;
 use crate::refusal::Refusal;
 
 /// Repacks a sheet: the same lots and conditions, with the records of condition 1 first, in the order of its chain, then those of condition 2, and so on.
-/// Sheets with equal lots and equal conditions give equal bytes, others never do, and a packed sheet stays as it is. They are the canonical bytes, which
-/// [`Sheet::to_bytes`](crate::Sheet::to_bytes) has too.
+/// Vacant records are dropped, and withdrawn conditions keep their places. Sheets with equal lots and equal conditions, withdrawn ones included, give equal
+/// bytes, others never do, and a packed sheet stays as it is. They are the canonical bytes, which [`Sheet::to_bytes`](crate::Sheet::to_bytes) has too.
 ///
 /// ```
 /// // "same 1 2 | apart 2 1", whose first term is record 2.
@@ -24,7 +24,8 @@ pub fn repack(sheet: &[u8]) -> Result<Vec<u8>, Refusal> {
 }
 
 /// Repacks a sheet into a lent output, and answers the bytes written. The rest of the output stays as it was, and a refusal writes nothing. Check 16 refuses an
-/// output that is shorter than the packed sheet, and its place is the length needed; [`MOST_SHEET_LENGTH`] bytes are always enough.
+/// output that is shorter than the packed sheet, and its place is the length needed, which may be below the sheet's own; [`MOST_SHEET_LENGTH`] bytes are always
+/// enough.
 ///
 /// ```
 /// let mut out = [7; 8];

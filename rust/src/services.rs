@@ -9,8 +9,8 @@ pub struct Reading {
     pub lots: u32,
     /// The number of conditions.
     pub conditions: u32,
-    /// The number of term records.
-    pub terms: u32,
+    /// The number of term records, vacant ones included.
+    pub records: u32,
 }
 
 /// What the evaluator answers.
@@ -26,15 +26,16 @@ pub enum Evaluation {
 ///
 /// ```
 /// let reading = lihumbay::read(&[2, 0, 1, 0, 1, 0, 1, 0, 1, 0, 1, 0, 2, 0, 0, 0])?;
-/// assert_eq!((reading.lots, reading.conditions, reading.terms), (2, 1, 1));
+/// assert_eq!((reading.lots, reading.conditions, reading.records), (2, 1, 1));
 /// # Ok::<(), lihumbay::Refusal>(())
 /// ```
 pub fn read(sheet: &[u8]) -> Result<Reading, Refusal> {
     let numbers = Refusal::or_numbers(raw::read(sheet))?;
-    Ok(Reading { lots: numbers.first, conditions: numbers.second, terms: numbers.third })
+    Ok(Reading { lots: numbers.first, conditions: numbers.second, records: numbers.third })
 }
 
-/// Evaluates a grouping: lot i has byte i − 1 as its number. A grouping longer than the number of lots may have anything in the rest.
+/// Evaluates a grouping: lot i has byte i − 1 as its number. A withdrawn condition is met by every grouping. A grouping longer than the number of lots may have
+/// anything in the rest.
 ///
 /// ```
 /// use lihumbay::{Evaluation, Sheet};

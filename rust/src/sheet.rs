@@ -4,7 +4,8 @@ use crate::term::{Condition, Term};
 use std::error::Error;
 use std::fmt;
 
-/// A sheet: the number of lots, and the conditions, numbered from 1. It is within the limits, so that it has bytes which the reader accepts.
+/// A sheet: the number of lots, and the conditions, numbered from 1, withdrawn ones included. It is within the limits, so that it has bytes which the reader
+/// accepts.
 ///
 /// [`to_bytes`](Sheet::to_bytes) and [`from_bytes`](Sheet::from_bytes) go to the bytes and back, [`Display`](fmt::Display) and
 /// [`FromStr`](std::str::FromStr) to text and back.
@@ -36,7 +37,7 @@ impl Sheet {
         self.conditions.get(index as usize)
     }
 
-    /// The number of terms over all conditions.
+    /// The number of terms over all conditions. Bytes that the sheet came from may have more records: the vacant ones.
     pub fn term_count(&self) -> usize {
         self.conditions.iter().map(|condition| condition.terms().len()).sum()
     }
@@ -49,7 +50,7 @@ impl Sheet {
 /// let mut builder = SheetBuilder::new(3)?;
 /// builder.condition([Term::Same(1, 2), Term::Same(1, 3)])?.condition([Term::Apart(1, 2)])?;
 /// let sheet = builder.finish();
-/// assert_eq!(lihumbay::read(&sheet.to_bytes())?.terms, 3);
+/// assert_eq!(lihumbay::read(&sheet.to_bytes())?.records, 3);
 /// assert!(SheetBuilder::new(129).is_err());
 /// # Ok::<(), Box<dyn std::error::Error>>(())
 /// ```
@@ -99,7 +100,7 @@ impl SheetBuilder {
         Ok(SheetBuilder { sheet: Sheet { lots, conditions: Vec::new() }, terms: 0 })
     }
 
-    /// Adds a condition with these terms; with none, nothing meets it.
+    /// Adds a condition with these terms; with none it is withdrawn, and everything meets it.
     pub fn condition(&mut self, terms: impl IntoIterator<Item = Term>) -> Result<&mut Self, LimitError> {
         if self.sheet.conditions.len() == MOST_CONDITIONS {
             return Err(LimitError::Conditions);

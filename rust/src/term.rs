@@ -31,16 +31,17 @@ impl fmt::Display for Term {
 pub(crate) const SAME: &str = "same";
 pub(crate) const APART: &str = "apart";
 pub(crate) const OR: char = '|';
-/// A condition with no term, which nothing meets.
-pub(crate) const NEVER: &str = "never";
+/// A condition with no term, which everything meets.
+pub(crate) const WITHDRAWN: &str = "withdrawn";
 
-/// A condition: it is met where one of its terms is true, and so never where it has none.
+/// A condition: it is met where one of its terms is true. With no term it is withdrawn: it keeps its number, and everything meets it.
 ///
 /// ```
 /// use lihumbay::{Condition, Term};
 /// let condition = Condition::from(vec![Term::Same(1, 2), Term::Apart(2, 3)]);
 /// assert_eq!(condition.to_string(), "same 1 2 | apart 2 3");
-/// assert_eq!(Condition::default().to_string(), "never");
+/// assert!(!condition.is_withdrawn());
+/// assert_eq!(Condition::default().to_string(), "withdrawn");
 /// ```
 #[derive(Clone, Debug, Default, PartialEq, Eq, Hash)]
 pub struct Condition(Vec<Term>);
@@ -49,6 +50,11 @@ impl Condition {
     /// The terms in order.
     pub fn terms(&self) -> &[Term] {
         &self.0
+    }
+
+    /// Whether the condition has no term, so that everything meets it.
+    pub fn is_withdrawn(&self) -> bool {
+        self.0.is_empty()
     }
 }
 
@@ -60,7 +66,7 @@ impl From<Vec<Term>> for Condition {
 
 impl fmt::Display for Condition {
     fn fmt(&self, f: &mut fmt::Formatter) -> fmt::Result {
-        let Some((first, others)) = self.0.split_first() else { return f.write_str(NEVER) };
+        let Some((first, others)) = self.0.split_first() else { return f.write_str(WITHDRAWN) };
         write!(f, "{first}")?;
         others.iter().try_for_each(|term| write!(f, " {OR} {term}"))
     }

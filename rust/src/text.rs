@@ -17,11 +17,11 @@ impl fmt::Display for Sheet {
     }
 }
 
-/// Reads the text form: one condition a line, its terms parted by `|`; a condition with no term, which nothing meets, is the line `never`. The line `lots N` may
-/// stand before the conditions; without it the highest lot named is the last. `#` begins a comment, and empty lines are passed over.
+/// Reads the text form: one condition a line, its terms parted by `|`; a condition with no term, which everything meets, is the line `withdrawn`. The line
+/// `lots N` may stand before the conditions; without it the highest lot named is the last. `#` begins a comment, and empty lines are passed over.
 ///
 /// ```
-/// let text = "lots 3\nsame 1 2 | apart 2 3\nnever\n";
+/// let text = "lots 3\nsame 1 2 | apart 2 3\nwithdrawn\n";
 /// let sheet: lihumbay::Sheet = text.parse()?;
 /// assert_eq!(sheet.to_string(), text);
 /// let error = "same 1 2 |".parse::<lihumbay::Sheet>().unwrap_err();
@@ -89,7 +89,7 @@ mod tests {
 
     #[test]
     fn comments_spaces_and_empty_lines_are_passed_over() {
-        let sheet: Sheet = "# first\n\n  lots 4 # four\r\n\tsame 1 2|apart  2 3\n #\nnever # no term".parse().unwrap();
+        let sheet: Sheet = "# first\n\n  lots 4 # four\r\n\tsame 1 2|apart  2 3\n #\nwithdrawn # no term".parse().unwrap();
         assert_eq!(sheet.lots(), 4);
         assert_eq!(sheet.conditions()[0].terms(), [Term::Same(1, 2), Term::Apart(2, 3)]);
         assert_eq!(sheet.conditions()[1].terms(), []);
@@ -100,7 +100,7 @@ mod tests {
     fn lots_are_those_named_where_no_line_says() {
         assert_eq!("same 1 5\napart 2 3".parse::<Sheet>().unwrap().lots(), 5);
         assert_eq!("".parse::<Sheet>().unwrap(), Sheet::default());
-        assert_eq!("never".parse::<Sheet>().unwrap().lots(), 0);
+        assert_eq!("withdrawn".parse::<Sheet>().unwrap().lots(), 0);
     }
 
     #[test]
@@ -113,7 +113,8 @@ mod tests {
             ("same 1 +2", 8, "`+2`: a lot's number should stand here"),
             ("same 1 2 apart 1 2", 10, "`apart`: `|` or the end of the line should stand here"),
             ("same 1 2 || apart 1 2", 11, "`|`: a term should stand here: `same` or `apart`, and two lots"),
-            ("never | same 1 2", 7, "`|`: the end of the line should stand here"),
+            ("withdrawn | same 1 2", 11, "`|`: the end of the line should stand here"),
+            ("same 1 2 | withdrawn", 12, "`withdrawn`: a term should stand here: `same` or `apart`, and two lots"),
             ("lots 3 4", 8, "`4`: the end of the line should stand here"),
             ("lots", 5, "the number of lots is missing"),
             ("lots 129", 6, "129 lots: a sheet has at most 128"),
@@ -132,8 +133,15 @@ mod tests {
     }
 
     #[test]
+    fn never_is_no_condition() {
+        let why = "`never`: this is no condition; what nothing meets is `apart 1 1`, and a condition with no term, which everything meets, is `withdrawn`";
+        assert_eq!(error("same 1 2\n never # no term"), (2, 2, why.into()));
+        assert_eq!(error("same 1 2 | never"), (1, 12, "`never`: a term should stand here: `same` or `apart`, and two lots".into()));
+    }
+
+    #[test]
     fn limits_are_said_where_they_are_passed() {
-        let many = "never\n".repeat(257);
+        let many = "withdrawn\n".repeat(257);
         assert_eq!(error(&many), (257, 1, "a sheet has at most 256 conditions".into()));
         let long = format!("{}\n same 1 2 | same 2 1", vec!["same 1 1"; 1023].join("|"));
         assert_eq!(error(&long), (2, 13, "a sheet has at most 1024 terms".into()));

@@ -62,13 +62,15 @@ fn assert_complained(run: &Run, status: i32, message: &str) {
 fn a_sheet_that_cannot_be_met_has_its_refutation_as_a_tree() {
     assert_said(&run(&["search"], &encoded(A)), 1, A_REPORT);
     assert_said(&run(&["search", "-"], &encoded(D)), 1, D_REPORT);
-    assert_said(&run(&["search"], &encoded("never")), 1, "cannot be met: refutation of 1 record\n1  ground, condition 1: never\n");
+    let one_ground = "cannot be met: refutation of 1 record\n1  ground, condition 2: apart 1 1\n";
+    assert_said(&run(&["search"], &encoded("withdrawn\napart 1 1")), 1, one_ground);
 }
 
 #[test]
 fn a_sheet_that_is_met_has_its_groups() {
     assert_said(&run(&["search"], C), 0, "met: 2 groups, 4 records\n  1 3\n  2\n");
     assert_said(&run(&["search"], &encoded("")), 0, "met: 0 groups, 1 record\n");
+    assert_said(&run(&["search"], &encoded("withdrawn")), 0, "met: 0 groups, 1 record\n");
 }
 
 #[test]
@@ -124,7 +126,10 @@ fn lists_are_refused_with_status_1() {
     let bytes = |record: Record| record.to_bytes().expect("the record is small");
     refused(&[], "check 10, the list is empty, too long, or not made of whole records");
     refused(&[0; RECORD_LENGTH + 1], "check 10, the list is empty, too long, or not made of whole records");
-    refused(&bytes(Record::Ground { condition: 1 }), "check 12, a ground's condition has a term that isn't false there: record 1");
+    refused(
+        &bytes(Record::Ground { condition: 1 }),
+        "check 12, a ground's condition is withdrawn, or has a term that isn't false there: record 1",
+    );
     let kind = "check 11, a record's kind, spare byte, lot or condition is out of range, or a ground's unused field isn't 0: record 1";
     refused(&bytes(Record::Met), kind);
 }
@@ -133,8 +138,9 @@ fn lists_are_refused_with_status_1() {
 fn sheets_are_refused_with_status_2_by_every_command() {
     let empty = Scratch::with("empty", &[]);
     let message = "standard input: check 1, the sheet is shorter than its header of 6 bytes";
-    for arguments in [["search", "-"].as_slice(), &["decode"], &["repack"], &["check", "-", empty.path()], &["evaluate", "-", empty.path()]]
-    {
+    let with_two_files = [["check", "-", empty.path()], ["evaluate", "-", empty.path()]];
+    let with_one = [["search", "-"].as_slice(), &["decode"], &["repack"], &["withdraw", "1"], &["withdraw", "-", "256"]];
+    for arguments in with_one.into_iter().chain(with_two_files.iter().map(|two| two.as_slice())) {
         assert_complained(&run(arguments, &[1, 2, 3]), 2, message);
     }
     let mut head_too_high = C.to_vec();
@@ -147,8 +153,8 @@ fn sheets_are_refused_with_status_2_by_every_command() {
 
 #[test]
 fn text_and_sheets_are_told_apart() {
-    for name in ["search", "repack"] {
-        let text = run(&[name], A.as_bytes());
+    for arguments in [["search"].as_slice(), &["repack"], &["withdraw", "1"]] {
+        let text = run(arguments, A.as_bytes());
         assert_eq!((text.status, text.text()), (2, ""));
         assert!(text.errors.ends_with("; this looks like text: `lihumbay encode` makes a sheet of it\n"), "{}", text.errors);
     }
@@ -161,7 +167,7 @@ fn text_goes_to_bytes_and_back() {
     assert_eq!(encoded("# sheet C\nsame 1 2|same 1 3\n\napart 1 2"), C);
     assert_eq!(encoded("\u{feff}same 1 2 | same 1 3\r\napart 1 2\r\n"), C);
     assert_said(&run(&["decode"], C), 0, "lots 3\nsame 1 2 | same 1 3\napart 1 2\n");
-    for text in ["lots 0\n", "lots 7\nnever\nsame 7 7\nnever\n", "lots 128\napart 128 1 | same 2 2\n"] {
+    for text in ["lots 0\n", "lots 7\nwithdrawn\nsame 7 7\nwithdrawn\n", "lots 128\napart 128 1 | same 2 2\n"] {
         assert_said(&run(&["decode"], &encoded(text)), 0, text);
     }
 }
@@ -184,10 +190,44 @@ fn repacking_puts_records_in_order() {
     assert_eq!(run(&["repack"], &large()).out, large());
 }
 
+/// Sheet C with its records in another order, and condition 1 withdrawn: records 1 and 3 are vacant.
+const WITHOUT_1: [u8; 34] = [3, 0, 2, 0, 3, 0, 0, 0, 2, 0, 0, 0, 0, 0, 0, 0, 0, 0, 2, 0, 1, 0, 2, 0, 0, 0, 0, 0, 0, 0, 0, 0, 0, 0];
+
+#[test]
+fn withdrawing_blanks_a_condition_and_nothing_else() {
+    let file = Scratch::with("sheet", SHUFFLED);
+    for arguments in
+        [["withdraw", file.path(), "1"].as_slice(), &["withdraw", "1"], &["withdraw", "-", "1"], &["withdraw", "--", "-", "01"]]
+    {
+        let without = run(arguments, SHUFFLED);
+        assert_eq!((without.status, without.out.as_slice(), without.errors.as_str()), (0, WITHOUT_1.as_slice(), ""), "{arguments:?}");
+    }
+    assert_eq!(file.bytes().as_deref(), Some(SHUFFLED), "the file itself stays");
+    assert_eq!(run(&["withdraw", "1"], C).out, include_bytes!("../../samples/c-withdrawn.sheet"));
+    assert_eq!(run(&["withdraw", "1"], &WITHOUT_1).out, WITHOUT_1, "withdrawn already");
+    assert_said(&run(&["decode"], &WITHOUT_1), 0, "lots 3\nwithdrawn\napart 1 2\n");
+    assert_said(&run(&["search"], &WITHOUT_1), 0, "met: 3 groups, 1 record\n  1\n  2\n  3\n");
+    assert_eq!(run(&["repack"], &WITHOUT_1).out, encoded("lots 3\nwithdrawn\napart 1 2"));
+}
+
+#[test]
+fn only_a_condition_of_the_sheet_can_be_withdrawn() {
+    let file = Scratch::with("sheet", C);
+    let message = format!("{}: there is no condition 3: conditions count from 1 to 2", file.path());
+    assert_complained(&run(&["withdraw", file.path(), "3"], &[]), 2, &message);
+    assert_complained(&run(&["withdraw", "1"], &[0; 6]), 2, "standard input: there is no condition 1: the sheet has none");
+}
+
 #[test]
 fn wrong_text_is_refused_with_its_place() {
     let lot = "standard input: line 2, column 20: lot 9 is out of range: lots count from 1 to 3";
     assert_complained(&run(&["encode"], b"lots 3\nsame 1 2 | apart 3 9"), 2, lot);
+    let never = run(&["encode"], b"never");
+    assert!(
+        never.status == 2 && never.errors.contains("line 1, column 1: `never`: ") && never.errors.contains("`withdrawn`"),
+        "{}",
+        never.errors
+    );
     let file = Scratch::with("text", b"\n  differ 1 2\n");
     let word = format!("{}: line 2, column 3: `differ`: a term should stand here: `same` or `apart`, and two lots", file.path());
     assert_complained(&run(&["encode", file.path()], &[]), 2, &word);
@@ -207,6 +247,15 @@ fn wrong_arguments_are_refused() {
     wrong(&["search", "--grouping", "-"], "`--grouping` needs the name of a file; see `lihumbay search --help`");
     wrong(&["search", "a", "b"], "2 files are given, where the sheet should be; see `lihumbay search --help`");
     wrong(&["repack", "a", "b"], "2 files are given, where the sheet should be; see `lihumbay repack --help`");
+    wrong(&["withdraw"], "the condition's number is missing; see `lihumbay withdraw --help`");
+    wrong(&["withdraw", "a", "b", "1"], "2 files are given, where the sheet should be; see `lihumbay withdraw --help`");
+    for number in ["0", "257", "4294967297", "99999999999999999999", "+1", "", "c.sheet"] {
+        wrong(
+            &["withdraw", "a", number],
+            &format!("a condition is a number from 1 to 256, not `{number}`; see `lihumbay withdraw --help`"),
+        );
+    }
+    wrong(&["withdraw", "-1"], "there is no option `-1`; see `lihumbay withdraw --help`");
     wrong(&["check"], "0 files are given, where the sheet and the list should be; see `lihumbay check --help`");
     wrong(&["check", "-", "-"], "only one file can be standard input; see `lihumbay check --help`");
 }
@@ -230,7 +279,7 @@ fn help_is_there_for_the_whole_and_for_each_command() {
         assert_eq!((whole.status, whole.errors.as_str()), (0, ""));
         assert!(whole.text().contains("Exit status:"));
     }
-    for name in ["encode", "decode", "repack", "search", "check", "evaluate"] {
+    for name in ["encode", "decode", "repack", "withdraw", "search", "check", "evaluate"] {
         let help = run(&[name, "--help"], &[]);
         assert!(help.text().starts_with(&format!("Usage: lihumbay {name} ")), "{name}");
         assert_said(&run(&["help", name], &[]), 0, help.text());
@@ -255,21 +304,21 @@ fn a_reader_that_stops_early_ends_the_command_quietly() {
 #[test]
 fn deep_records_say_how_deep_they_are() {
     let terms: Vec<String> = (2..=60).map(|lot| format!("same 1 {lot}")).collect();
-    let report = run(&["search"], &encoded(&format!("{}\nnever", terms.join(" | "))));
+    let report = run(&["search"], &encoded(&format!("{}\napart 1 1", terms.join(" | "))));
     assert!(report.text().contains(&format!("{}apart 1 41: split 1 42\n", "  ".repeat(40))));
     assert!(report.text().contains(&format!("{}(41 deep) apart 1 42: split 1 43\n", "  ".repeat(40))));
 }
 
-/// One condition with as many "same" terms as a sheet can have, and one with none: a path has a split for each term.
+/// One condition with as many "same" terms as a sheet can have beside one that nothing meets: a path has a split for each term.
 #[test]
 fn the_deepest_search_needs_no_stack_of_the_command() {
-    let pairs = (1..=46).flat_map(|a| (a + 1..=46).map(move |b| format!("same {a} {b}"))).take(1024).collect::<Vec<_>>();
-    let sheet = Scratch::with("sheet", &encoded(&format!("{}\nnever", pairs.join(" | "))));
+    let pairs = (1..=46).flat_map(|a| (a + 1..=46).map(move |b| format!("same {a} {b}"))).take(1023).collect::<Vec<_>>();
+    let sheet = Scratch::with("sheet", &encoded(&format!("{}\napart 1 1", pairs.join(" | "))));
     let mut shell = Command::new("sh");
     shell.args(["-c", "ulimit -s 256 && exec \"$0\" search \"$1\"", env!("CARGO_BIN_EXE_lihumbay"), sheet.path()]);
     let output = shell.output().expect("the shell starts");
     assert_eq!(output.status.code(), Some(1), "{}", String::from_utf8_lossy(&output.stderr));
-    assert!(output.stdout.starts_with(b"cannot be met: refutation of 2049 records\n"));
+    assert!(output.stdout.starts_with(b"cannot be met: refutation of 2047 records\n"));
 }
 
 #[test]

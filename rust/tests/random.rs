@@ -69,6 +69,31 @@ fn sheets_go_to_bytes_and_text_and_back() {
 }
 
 #[test]
+fn a_withdrawn_condition_has_no_term_and_the_others_have_theirs() {
+    let mut random = Random(5);
+    for _ in 0..2000 {
+        let sheet = random.sheet();
+        let count = sheet.conditions().len();
+        if count == 0 {
+            continue;
+        }
+        let bytes = reordered(&sheet.to_bytes(), count, &mut random);
+        let number = random.below(count);
+        let without = lihumbay::withdraw(&bytes, number as u32 + 1).unwrap();
+        let mut expected = SheetBuilder::new(sheet.lots()).unwrap();
+        for (at, condition) in sheet.conditions().iter().enumerate() {
+            let terms = if at == number { &[] } else { condition.terms() };
+            expected.condition(terms.iter().copied()).unwrap();
+        }
+        let expected = expected.finish();
+        assert_eq!(Sheet::from_bytes(&without).as_ref(), Ok(&expected));
+        assert_eq!(lihumbay::repack(&without), Ok(expected.to_bytes()));
+        assert_eq!(lihumbay::read(&without), lihumbay::read(&bytes));
+        assert_eq!(lihumbay::withdraw(&without, number as u32 + 1), Ok(without));
+    }
+}
+
+#[test]
 fn verdicts_pass_the_other_services() {
     let mut random = Random(2);
     let (mut met, mut cannot) = (0, 0);
@@ -108,7 +133,8 @@ fn damaged_bytes_are_refused_or_read() {
 #[test]
 fn damaged_text_is_refused_or_read() {
     let mut random = Random(4);
-    let pieces = ["same", "apart", "never", "lots", "|", "#", "\n", " ", "1", "3", "0", "99999999", "é", "\t", "-", "+1", "\r\n"];
+    let pieces =
+        ["same", "apart", "withdrawn", "never", "lots", "|", "#", "\n", " ", "1", "3", "0", "99999999", "é", "\t", "-", "+1", "\r\n"];
     for _ in 0..20_000 {
         let text: String = (0..random.below(12)).map(|_| [pieces[random.below(pieces.len())], " "].concat()).collect();
         match text.parse::<Sheet>() {

@@ -35,7 +35,8 @@ fn the_starred_sheets() {
     assert_eq!(searched(C), "split 1 2 3, ground 2, split 1 3 0, met [1, 2, 1] of 4");
     assert_eq!(searched(D), "split 1 2 5, split 2 3 4, ground 1, ground 4, split 2 3 7, ground 3, ground 2, cannot of 7");
     assert_eq!(searched(""), "met [] of 1");
-    assert_eq!(searched("never"), "ground 1, cannot of 1");
+    // The zero head, as document 02 has it.
+    assert_eq!(searched("withdrawn"), "met [] of 1");
     assert_eq!(searched("same 1 1"), "met [1] of 1");
     assert_eq!(searched("apart 1 1"), "ground 1, cannot of 1");
 }
@@ -74,11 +75,14 @@ fn a_lent_grouping_too_short_is_refused() {
     assert_eq!((refusal.check.number(), refusal.place), (8, 3));
 }
 
-/// A sheet with the longest path, a split for each term: one condition of "same" terms, and one that nothing meets.
+/// The splits of the longest path. A sheet of "same" terms alone is met with all lots together, so one term is another.
+const DEEPEST: usize = MOST_TERMS - 1;
+
+/// A sheet with the longest path, a split for each "same" term: one condition of such terms, and one that nothing meets.
 fn deepest() -> Vec<u8> {
     let mut builder = SheetBuilder::new(128).unwrap();
     let pairs = (1..=128).flat_map(|a| (a + 1..=128).map(move |b| Term::Same(a, b)));
-    builder.condition(pairs.take(MOST_TERMS)).unwrap().condition([]).unwrap();
+    builder.condition(pairs.take(DEEPEST)).unwrap().condition([Term::Apart(1, 1)]).unwrap();
     builder.finish().to_bytes()
 }
 
@@ -86,7 +90,7 @@ fn deepest() -> Vec<u8> {
 fn a_deep_search_runs_from_a_thread_with_a_small_stack() {
     let verdict = std::thread::Builder::new().stack_size(64 << 10).spawn(|| lihumbay::search(&deepest())).unwrap().join().unwrap().unwrap();
     let Verdict::Cannot { refutation } = verdict else { panic!("nothing meets the sheet") };
-    assert_eq!(refutation.walk().map(|step| step.unwrap().depth).max(), Some(MOST_TERMS));
+    assert_eq!(refutation.walk().map(|step| step.unwrap().depth).max(), Some(DEEPEST));
     assert_eq!(lihumbay::check(&deepest(), refutation.as_bytes()), Ok(()));
 }
 
@@ -117,6 +121,11 @@ fn refusals_of_a_sheet_have_their_numbers_and_places() {
     assert_eq!(refused(&changed(10, 3)), (5, 1));
     assert_eq!(refused(&changed(16, 1)), (6, 1));
     assert_eq!(refused(&changed(8, 0)), (7, 3));
+    let mut blanked = sheet(C);
+    blanked[18..26].fill(0);
+    assert_eq!(refused(&blanked), (17, 2));
+    blanked[25] = 1;
+    assert_eq!(refused(&blanked), (5, 2));
 }
 
 #[test]
@@ -134,13 +143,18 @@ fn refusals_of_a_list_have_their_numbers_and_places() {
     assert_eq!(refused(&list_of(&[split(1, 2, 4), right[1], right[2], right[3], right[4]])), Err((13, 1)));
     assert_eq!(refused(&list_of(&right[..4])), Err((14, 5)));
     assert_eq!(refused(&list_of(&[split(1, 2, 0); 1025])), Err((15, 1025)));
+    // A ground on a condition that is withdrawn, whatever the splits above it.
+    let without = lihumbay::withdraw(&sheet(A), 2).unwrap();
+    let refusal = lihumbay::check(&without, &list_of(&right)).unwrap_err();
+    assert_eq!((refusal.check.number(), refusal.place), (12, 4));
 }
 
 #[test]
 fn the_evaluator_names_the_lowest_condition() {
     assert_eq!(lihumbay::evaluate(&sheet(C), &[1, 2, 1, 77]), Ok(Evaluation::AllMet));
     assert_eq!(lihumbay::evaluate(&sheet(C), &[1, 2, 3]), Ok(Evaluation::Unmet(1)));
-    assert_eq!(lihumbay::evaluate(&sheet("never"), &[]), Ok(Evaluation::Unmet(1)));
+    assert_eq!(lihumbay::evaluate(&sheet("withdrawn"), &[]), Ok(Evaluation::AllMet));
+    assert_eq!(lihumbay::evaluate(&sheet("withdrawn\nwithdrawn\napart 1 1"), &[7]), Ok(Evaluation::Unmet(3)));
     assert_eq!(lihumbay::evaluate(&sheet(C), &[1, 2]).unwrap_err().place, 3);
 }
 
@@ -175,6 +189,33 @@ fn a_refused_sheet_is_not_repacked() {
     // Longer than any sheet: the output that is made for it is not.
     assert_eq!(number(&[C_IN_ANOTHER_ORDER, &[0; 20_000]].concat()), Err(3));
     assert_eq!(lihumbay::repack_into(&[], &mut []).unwrap_err().check.number(), 1);
+}
+
+#[test]
+fn a_withdrawn_condition_asks_nothing_and_the_others_keep_their_numbers() {
+    let without = lihumbay::withdraw(&sheet(A), 1).unwrap();
+    assert_eq!(lihumbay::read(&without), lihumbay::read(&sheet(A)));
+    assert_eq!(lihumbay::evaluate(&without, &[1, 2, 2]), Ok(Evaluation::AllMet));
+    assert_eq!(lihumbay::evaluate(&without, &[1, 2, 1]), Ok(Evaluation::Unmet(2)));
+    assert_eq!(lihumbay::evaluate(&without, &[1, 1, 1]), Ok(Evaluation::Unmet(3)));
+    assert!(matches!(lihumbay::search(&without), Ok(Verdict::Met { grouping, .. }) if grouping.as_bytes() == [1, 2, 2]));
+    let read = Sheet::from_bytes(&without).unwrap();
+    assert_eq!(read.to_string(), "lots 3\nwithdrawn\nsame 2 3\napart 1 3\n");
+    assert!(read.conditions()[0].is_withdrawn());
+}
+
+#[test]
+fn packing_drops_the_vacant_records() {
+    let without = lihumbay::withdraw(C_IN_ANOTHER_ORDER, 1).unwrap();
+    let packed = sheet("lots 3\nwithdrawn\napart 1 2");
+    assert_eq!((without.len(), packed.len()), (34, 18));
+    assert_eq!(lihumbay::repack(&without), Ok(packed.clone()));
+    let mut out = [9; 18];
+    assert_eq!(lihumbay::repack_into(&without, &mut out), Ok(18));
+    assert_eq!(out, packed.as_slice());
+    let refusal = lihumbay::repack_into(&without, &mut out[..17]).unwrap_err();
+    assert_eq!((refusal.check.number(), refusal.place), (16, 18));
+    assert_eq!((lihumbay::read(&without).unwrap().records, lihumbay::read(&packed).unwrap().records), (3, 1));
 }
 
 #[test]

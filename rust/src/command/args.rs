@@ -2,7 +2,7 @@
 use super::ending::Failure;
 use super::files::Source;
 use super::help;
-use lihumbay::MOST_RECORDS;
+use lihumbay::{MOST_CONDITIONS, MOST_RECORDS};
 use std::ffi::{OsStr, OsString};
 use std::path::PathBuf;
 
@@ -14,6 +14,7 @@ pub enum Request {
     Encode { text: Source },
     Decode { sheet: Source },
     Repack { sheet: Source },
+    Withdraw { sheet: Source, condition: u32 },
     Search(Search),
     Check { sheet: Source, list: Source },
     Evaluate { sheet: Source, grouping: Source },
@@ -41,6 +42,7 @@ pub fn parse(mut arguments: impl Iterator<Item = OsString>) -> Result<Request, F
         "encode" => rest.files_alone(["the text"], |[text]| Request::Encode { text }),
         "decode" => rest.files_alone(["the sheet"], |[sheet]| Request::Decode { sheet }),
         "repack" => rest.files_alone(["the sheet"], |[sheet]| Request::Repack { sheet }),
+        "withdraw" => rest.withdraw(),
         "search" => rest.search(),
         "check" => rest.files_alone(["the sheet", "the list"], |[sheet, list]| Request::Check { sheet, list }),
         "evaluate" => rest.files_alone(["the sheet", "the grouping"], |[sheet, grouping]| Request::Evaluate { sheet, grouping }),
@@ -56,6 +58,7 @@ struct Arguments<'a> {
 
 /// One argument.
 enum Argument {
+    /// A file, or another operand.
     File(OsString),
     /// An option by its name, with the value that was joined to it by `=`.
     Option(String, Option<OsString>),
@@ -73,16 +76,31 @@ impl Arguments<'_> {
     }
 
     /// A command that has files, and no options but `--help`.
-    fn files_alone<const N: usize>(mut self, names: [&str; N], request: impl FnOnce([Source; N]) -> Request) -> Result<Request, Failure> {
-        let mut files = Vec::new();
-        while let Some(argument) = self.next(&mut files) {
+    fn files_alone<const N: usize>(self, names: [&str; N], request: impl FnOnce([Source; N]) -> Request) -> Result<Request, Failure> {
+        self.operands(|own, files| own.sources(files, names).map(request))
+    }
+
+    /// The sheet and, behind it, the condition's number; where that stands alone, the sheet is standard input.
+    fn withdraw(self) -> Result<Request, Failure> {
+        self.operands(|own, mut operands| {
+            let Some(number) = operands.pop() else { return Err(wrong("the condition's number is missing", own.command)) };
+            let condition = own.condition(&number)?;
+            let [sheet] = own.sources(operands, ["the sheet"])?;
+            Ok(Request::Withdraw { sheet, condition })
+        })
+    }
+
+    /// A command that has operands, and no options but `--help`.
+    fn operands(mut self, request: impl FnOnce(&Self, Vec<OsString>) -> Result<Request, Failure>) -> Result<Request, Failure> {
+        let mut operands = Vec::new();
+        while let Some(argument) = self.next(&mut operands) {
             match argument {
-                Argument::File(file) => files.push(file),
+                Argument::File(operand) => operands.push(operand),
                 Argument::Option(name, _) if is_help(&name) => return self.own_help(),
                 Argument::Option(name, _) => return Err(self.unknown(&name)),
             }
         }
-        self.sources(files, names).map(request)
+        request(&self, operands)
     }
 
     fn search(mut self) -> Result<Request, Failure> {
@@ -128,9 +146,16 @@ impl Arguments<'_> {
 
     fn record_count(&mut self, joined: Option<OsString>) -> Result<usize, Failure> {
         let value = self.value("--records", joined)?;
-        let digits = value.to_str().filter(|text| text.bytes().all(|byte| byte.is_ascii_digit()));
-        let number = digits.and_then(|text| text.parse().ok()).filter(|&number: &usize| number <= MOST_RECORDS);
+        let number = whole_number(&value).filter(|&number| number <= MOST_RECORDS);
         number.ok_or_else(|| wrong(&format!("`--records` is a number from 0 to {MOST_RECORDS}, not `{}`", value.display()), self.command))
+    }
+
+    /// A condition's number. Whether the sheet has such a condition is seen when the sheet is read.
+    fn condition(&self, value: &OsStr) -> Result<u32, Failure> {
+        let number =
+            whole_number(value).filter(|number| (1..=MOST_CONDITIONS).contains(number)).and_then(|number| u32::try_from(number).ok());
+        number
+            .ok_or_else(|| wrong(&format!("a condition is a number from 1 to {MOST_CONDITIONS}, not `{}`", value.display()), self.command))
     }
 
     /// A file to write. Standard output has the report, so `-` is none.
@@ -163,6 +188,11 @@ impl Arguments<'_> {
     fn unknown(&self, option: &str) -> Failure {
         wrong(&format!("there is no option `{option}`"), self.command)
     }
+}
+
+/// A number in digits alone.
+fn whole_number(value: &OsStr) -> Option<usize> {
+    value.to_str().filter(|text| text.bytes().all(|byte| byte.is_ascii_digit()))?.parse().ok()
 }
 
 fn is_help(option: &str) -> bool {

@@ -10,6 +10,7 @@ Commands:
   encode    make a sheet of readable text
   decode    write a sheet as readable text
   repack    put a sheet's records in order, so that equal sheets are equal files
+  withdraw  take a condition out of a sheet; the others keep their numbers
   search    find a grouping that meets a sheet, or a refutation
   check     check a refutation from any hand
   evaluate  say whether a grouping meets a sheet
@@ -41,7 +42,7 @@ Makes a sheet of readable text, and writes its bytes to standard output.
 Each line is a condition: one term or more, parted by `|`. `same A B` is true
 when lots A and B have the same number, `apart A B` when they have different
 ones. A condition is met when a term is true, a sheet when all conditions are.
-The line `never` is a condition with no term, which nothing meets.
+The line `withdrawn` is a condition with no term, which everything meets.
 
 `lots N` may stand before the conditions; without it the lots are 1 to the
 highest named. `#` begins a comment. Empty lines are passed over.
@@ -54,19 +55,33 @@ A sheet has at most {MOST_LOTS} lots, {MOST_CONDITIONS} conditions and {MOST_TER
 const DECODE: &str = "\
 Usage: lihumbay decode [SHEET]
 
-Writes a sheet as the text that `lihumbay encode` reads. Encoded again, it is a
-sheet with the same lots and conditions, its records in order of condition.
+Writes a sheet as the text that `lihumbay encode` reads. Encoded again, it is
+the packed sheet: the same lots and conditions, the records in order of
+condition, and none of them vacant.
 ";
 
 const REPACK: &str = "\
 Usage: lihumbay repack [SHEET] > PACKED
 
 Writes the sheet's bytes to standard output with the records of condition 1
-first, in order, then those of condition 2, and so on. Two sheets with the same
+first, in order, then those of condition 2, and so on. Vacant records are
+dropped, and withdrawn conditions keep their numbers. Two sheets with the same
 lots and the same conditions give the same bytes, two that differ never do, and
 a packed sheet stays as it is.
 
 Exit status: 0 written, 2 the sheet is refused.
+";
+
+const WITHDRAW: &str = "\
+Usage: lihumbay withdraw [SHEET] CONDITION > WITHDRAWN
+
+Writes the sheet's bytes to standard output with one condition withdrawn, the
+one with this number: its head is zero, and its records are blanked. All other
+bytes stay as they were, so that the other conditions keep their numbers.
+Everything meets a withdrawn condition. Where it is withdrawn already, no byte
+changes. `lihumbay repack` drops the blanked records.
+
+Exit status: 0 written, 2 the sheet is refused or has no such condition.
 ";
 
 fn search() -> String {
@@ -119,6 +134,7 @@ pub fn of(command: &str) -> Option<String> {
         "encode" => encode(),
         "decode" => DECODE.into(),
         "repack" => REPACK.into(),
+        "withdraw" => WITHDRAW.into(),
         "search" => search(),
         "check" => CHECK.into(),
         "evaluate" => EVALUATE.into(),

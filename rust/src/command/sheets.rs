@@ -1,4 +1,4 @@
-//! Sheets from files, and `encode`, `decode` and `repack`.
+//! Sheets from files, and `encode`, `decode`, `repack` and `withdraw`.
 use super::ending::{Failure, Status};
 use super::files::{self, Source};
 use lihumbay::{MOST_SHEET_LENGTH, Sheet};
@@ -40,6 +40,12 @@ pub fn repack(source: &Source) -> Result<Status, Failure> {
     let accepted = read(source)?;
     let canonical = lihumbay::repack(&accepted.bytes).map_err(|refusal| source.failure(refusal))?;
     files::print(|out| out.write_all(&canonical))
+}
+
+pub fn withdraw(source: &Source, condition: u32) -> Result<Status, Failure> {
+    let accepted = read(source)?;
+    let bytes = lihumbay::withdraw(&accepted.bytes, condition).map_err(|error| source.failure(error))?;
+    files::print(|out| out.write_all(&bytes))
 }
 
 /// Whether bytes have nothing but what text has. A byte sequence that the input's end cut in two is passed over.
