@@ -137,6 +137,33 @@ static void repacker(void) {
     expect("no byte changed", memcmp(out, sheet_c, sizeof sheet_c) == 0 && all(out, 34, 40, 170));
 }
 
+/* Sheet C with condition 1 withdrawn: its head is zero, and records 1 and 2 are vacant. */
+static const uint8_t withdrawn_c[] = {
+    3, 0, 2, 0, 3, 0,       0, 0, 3, 0,             0, 0, 0, 0, 0, 0, 0, 0,
+    0, 0, 0, 0, 0, 0, 0, 0, 2, 0, 1, 0, 2, 0, 0, 0,
+};
+
+/* The same, packed. */
+static const uint8_t packed_c[] = {3, 0, 2, 0, 1, 0, 0, 0, 1, 0, 2, 0, 1, 0, 2, 0, 0, 0};
+
+static void withdrawn(void) {
+    static const uint8_t ground_1[] = {2, 0, 1, 0, 0, 0, 0, 0};
+    static const uint8_t met[] = {3, 0, 0, 0, 0, 0, 0, 0};
+    uint8_t grouping[3], store[8], out[20], vacant[sizeof sheet_c];
+    memset(out, 170, sizeof out);
+    expect("read, vacant records counted", is(lihumbay_read(withdrawn_c, sizeof withdrawn_c), 0, 3, 2, 3));
+    expect("search, a withdrawn condition", is(lihumbay_search(withdrawn_c, sizeof withdrawn_c, grouping, 3, store, sizeof store), 0, 1, 1, 0));
+    expect("its grouping", memcmp(grouping, "\1\2\3", 3) == 0 && memcmp(store, met, 8) == 0);
+    expect("evaluate, a withdrawn condition", is(lihumbay_evaluate(withdrawn_c, sizeof withdrawn_c, grouping, 3), 0, 0, 0, 0));
+    expect("check, a ground on it", is(lihumbay_check(withdrawn_c, sizeof withdrawn_c, ground_1, sizeof ground_1), 12, 1, 0, 0));
+    expect("repack, a byte too short", is(lihumbay_repack(withdrawn_c, sizeof withdrawn_c, out, 17), 16, 18, 0, 0));
+    expect("repack, vacant records dropped", is(lihumbay_repack(withdrawn_c, sizeof withdrawn_c, out, 18), 0, 18, 0, 0));
+    expect("its sheet", memcmp(out, packed_c, sizeof packed_c) == 0 && all(out, 18, 20, 170));
+    memcpy(vacant, sheet_c, sizeof vacant);
+    memset(vacant + 18, 0, 8);
+    expect("read, a chain into a vacant record", is(lihumbay_read(vacant, sizeof vacant), 17, 2, 0, 0));
+}
+
 int main(void) {
     reader();
     search_met();
@@ -145,6 +172,7 @@ int main(void) {
     evaluator();
     checker();
     repacker();
+    withdrawn();
     puts(failed ? "calls from C: FAILED" : "calls from C: ok");
     return failed;
 }

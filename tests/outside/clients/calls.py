@@ -66,6 +66,19 @@ def reordered(repack):
     assert short == b"\xaa" * 33
 
 
+def withdrawn(read, search, evaluate, check, repack):
+    sheet = bytes.fromhex("030002000300 00000300 0000000000000000 0000000000000000 0200010002000000")
+    grouping, store, out = bytearray(3), bytearray(8), bytearray(18)
+    assert read(sheet) == (0, 3, 2, 3)
+    assert search(sheet, grouping, store) == (0, 1, 1, 0)
+    assert grouping == bytes([1, 2, 3]) and store == bytes([3, 0, 0, 0, 0, 0, 0, 0])
+    assert evaluate(sheet, bytes([1, 1, 1])) == (0, 2, 0, 0)
+    assert check(sheet, bytes([2, 0, 1, 0, 0, 0, 0, 0])) == (12, 1, 0, 0)
+    assert repack(sheet, out) == (0, 18, 0, 0)
+    assert out == bytes.fromhex("030002000100 00000100 0200010002000000")
+    assert read(C[:18] + bytes(8) + C[26:]) == (17, 2, 0, 0)
+
+
 def main():
     library = ctypes.CDLL(sys.argv[1])
     read, evaluate = service(library, "lihumbay_read", 1), service(library, "lihumbay_evaluate", 2)
@@ -73,7 +86,9 @@ def main():
     sheet_c(read, search, evaluate)
     store_full(search)
     sheet_a(search, check)
-    reordered(service(library, "lihumbay_repack", 2))
+    repack = service(library, "lihumbay_repack", 2)
+    reordered(repack)
+    withdrawn(read, search, evaluate, check, repack)
     print("calls from Python: ok")
 
 

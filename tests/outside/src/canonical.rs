@@ -3,9 +3,9 @@ use crate::case::Case;
 use crate::compare::{Repacked, Searched, plain, searched_on};
 use crate::guarded::Guarded;
 use lihumbay::raw;
-use second::limits::{HEAD_LENGTH, HEADER_LENGTH, TERM_LENGTH};
+use second::limits::{HEAD_LENGTH, HEADER_LENGTH, MOST_TERMS, TERM_LENGTH};
 use second::reader::accept;
-use second::writer::sheet_bytes_in;
+use second::writer::sheet_bytes_among;
 
 /// The canonical bytes, in exactly the room that check 16 asks for; none of a sheet that the reader refuses too.
 pub fn canonical(sheet: &[u8]) -> Result<Option<Vec<u8>>, String> {
@@ -28,14 +28,26 @@ pub fn canonical_laws(case: &Case, found: &Searched, repacked: &Repacked) -> Res
     if repacked.answer[0] == 0 && repacked.out[..canonical.len()] != canonical {
         return Err("the canonical bytes depend on the room".into());
     }
-    if raw::read(&canonical) != raw::read(&case.sheet) {
-        return Err("the canonical sheet is not read as the sheet is".into());
-    }
+    read_alike(&case.sheet, &canonical)?;
     if !is_in_order(&canonical) {
         return Err("the canonical sheet's records are not in order".into());
     }
     answered_alike(case, &canonical, found)?;
     written_once(&case.sheet, &canonical)
+}
+
+/// The reader answers the canonical sheet as it answers the sheet, except for k, which counts no vacant record: each of them makes the sheet longer by a
+/// record.
+fn read_alike(sheet: &[u8], canonical: &[u8]) -> Result<(), String> {
+    let ([check, lots, conditions, records], packed) = (plain(raw::read(sheet)), plain(raw::read(canonical)));
+    let vacant = sheet[HEADER_LENGTH + HEAD_LENGTH * conditions as usize..]
+        .chunks(TERM_LENGTH)
+        .filter(|record| **record == [0; TERM_LENGTH])
+        .count();
+    if packed != [check, lots, conditions, records - vacant as u32] || sheet.len() != canonical.len() + TERM_LENGTH * vacant {
+        return Err("the canonical sheet is not read as the sheet is, or has not one record less for each vacant one".into());
+    }
+    Ok(())
 }
 
 /// Search, with every byte of both buffers, evaluator and checker answer the canonical sheet as they answer the sheet.
@@ -58,11 +70,13 @@ fn written_once(sheet: &[u8], expected: &[u8]) -> Result<(), String> {
     Ok(())
 }
 
-/// The same lots and conditions, the last term's record first.
+/// The same lots and conditions, the last term's record first, and before each record a vacant one, where there is room.
 fn turned(sheet: &[u8]) -> Vec<u8> {
     let sheet = accept(sheet).expect("a sheet that the archive accepts");
-    let order: Vec<usize> = (1..=sheet.conditions.iter().map(Vec::len).sum()).rev().collect();
-    sheet_bytes_in(sheet.lots, &sheet.conditions, &order)
+    let terms: usize = sheet.conditions.iter().map(Vec::len).sum();
+    let apart = if 2 * terms <= MOST_TERMS { 2 } else { 1 };
+    let order: Vec<usize> = (1..=terms).rev().map(|number| apart * number).collect();
+    sheet_bytes_among(sheet.lots, &sheet.conditions, &order, apart * terms)
 }
 
 /// "the records of condition 1 first, in chain order, then condition 2, and so on, each chain running through neighbouring numbers"

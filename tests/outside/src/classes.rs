@@ -1,7 +1,7 @@
 //! The classes of input: valid and damaged sheets, groupings, stores, and refutations of every hand.
 use crate::case::{Case, grouping, out_length, probe, store_length};
 use crate::damage::{Damaged, list_fault};
-use crate::families::{bytes, deep, joined, marked, wide, wide_and_met, wide_and_met_count, wide_count};
+use crate::families::{DEEPEST, bytes, deep, joined, marked, wide, wide_and_met, wide_and_met_count, wide_count};
 use crate::lists;
 use crate::random::Random;
 use crate::run::Class;
@@ -69,12 +69,12 @@ fn wide_family(random: &mut Random, _: usize) -> Case {
     case
 }
 
-/// Paths of up to 1,024 splits, and of 127 joins.
+/// Paths of up to 1,023 splits, and of 127 joins.
 fn deep_family(random: &mut Random, number: usize) -> Case {
     let (conditions, lots) = match number % 3 {
         0 => (joined(random.range(100, 128)), 128),
-        1 => (deep(46, random.range(1000, 1024), random), 46),
-        _ => (deep(128, 1024 - number % 4, random), 128),
+        1 => (deep(46, random.range(1000, DEEPEST), random), 46),
+        _ => (deep(128, DEEPEST - number % 4, random), 128),
     };
     let sheet = sheets::write_in_some_order(lots, &conditions, random);
     let found = probe(&sheet, 3000);
@@ -227,16 +227,16 @@ fn faulty_other_hand(random: &mut Random, _: usize) -> Case {
     with_faults(sheet, list, random)
 }
 
-/// A sheet whose condition 1 is false under every path, so that the records alone decide.
+/// Lots, and a sheet whose condition 1 is false under every path, so that the records alone decide. Condition 2 is withdrawn: no ground that names it passes.
 fn nobody_meets(random: &mut Random) -> (usize, Vec<u8>) {
     let lots = random.range(1, 4);
-    let condition = if random.chance(50) { vec![] } else { vec![apart(1, 1), apart(lots, lots)] };
-    (lots, sheet_bytes(lots, &[condition]))
+    let condition = if random.chance(50) { vec![apart(lots, lots)] } else { vec![apart(1, 1), apart(lots, lots)] };
+    (lots, sheet_bytes(lots, &[condition, vec![]]))
 }
 
 fn any_list(random: &mut Random, number: usize) -> Case {
     let (lots, sheet) = nobody_meets(random);
-    let mut list = list_bytes(&lists::any(lots, 1, random.below(9), random));
+    let mut list = list_bytes(&lists::any(lots, 2, random.below(9), random));
     if number.is_multiple_of(20) {
         list.truncate(list.len().saturating_sub(random.below(NODE_LENGTH)));
     }
@@ -251,7 +251,7 @@ fn deep_list(random: &mut Random, number: usize) -> Case {
     let directions: Vec<bool> = (0..depth).map(|_| random.chance(percent)).collect();
     let mut list = list_bytes(&lists::spine(lots, &directions, random));
     if number.is_multiple_of(2) {
-        list_fault(&mut list, lots, 1, random);
+        list_fault(&mut list, lots, 2, random);
     }
     with_list(sheet, list, random)
 }

@@ -40,11 +40,13 @@ impl Damaged {
 
     /// One fault of a random kind. Some leave a sheet that is accepted, with another meaning.
     pub fn fault(&mut self, random: &mut Random) {
-        match random.below(12) {
+        match random.below(16) {
             0 => self.header(random),
             1 | 2 => self.a_head(random),
             3 => self.length(random),
             4 => self.an_unreached_record(random),
+            6..=8 if self.terms > 0 => self.a_blank(random),
+            9 => self.a_vacant_record_more(random),
             5 if !self.bytes.is_empty() => {
                 let at = random.below(self.bytes.len());
                 self.bytes[at] = random.byte();
@@ -105,6 +107,34 @@ impl Damaged {
             5 => self.set(at + 6, self.record_number(random)),
             6 => self.set(at + 6, random.range(1, self.terms)),
             _ => self.set(at + 6, 0),
+        }
+    }
+
+    /// A record blanked, wholly or but for one byte, while the chain that had it stays; or a head that is zero, or leads elsewhere, while its records stay.
+    fn a_blank(&mut self, random: &mut Random) {
+        let at = self.record(random.range(1, self.terms));
+        (at..at + TERM_LENGTH).for_each(|byte| self.set_byte(byte, 0));
+        match random.below(5) {
+            0 => self.set_byte(at + random.below(TERM_LENGTH), random.pick(&[1, 2, 255])),
+            1 => self.set(self.head(random), 0),
+            2 => self.set(self.head(random), random.range(0, self.terms)),
+            3 => self.set(self.record(random.range(1, self.terms)) + 6, random.range(0, self.terms)),
+            _ => {}
+        }
+    }
+
+    /// A vacant record more at the end, which is accepted; at times a head or a next leads to it.
+    fn a_vacant_record_more(&mut self, random: &mut Random) {
+        if self.terms == MOST_TERMS {
+            return;
+        }
+        self.terms += 1;
+        self.bytes.extend([0; TERM_LENGTH]);
+        self.set(4, self.terms);
+        match random.below(4) {
+            0 => self.set(self.head(random), self.terms),
+            1 => self.set(self.record(random.range(1, self.terms)) + 6, self.terms),
+            _ => {}
         }
     }
 

@@ -1,5 +1,6 @@
 //! Sheets whose count of nodes or depth of path is known by how they are made.
 use crate::random::Random;
+use second::limits::MOST_TERMS;
 use second::sheet::Term;
 use second::writer::{apart, same, sheet_bytes};
 
@@ -47,13 +48,17 @@ pub fn wide_and_met_count(widths: &[usize]) -> usize {
     1 + wide_count(widths) + 1 + widths.len() + 1
 }
 
-/// One condition of `width` "same" terms on different pairs, and one that nobody meets: the path with all of them apart has `width` splits.
+/// The most splits that a path of a search has: a sheet of "same" terms alone is met with all lots together, so one of its records has another term.
+pub const DEEPEST: usize = MOST_TERMS - 1;
+
+/// One condition of `width` "same" terms on different pairs, and one that nobody meets, which takes a record of its own: the path with all of them apart has
+/// `width` splits.
 pub fn deep(lots: usize, width: usize, random: &mut Random) -> Vec<Vec<Term>> {
     let mut pairs: Vec<Term> = (1..=lots).flat_map(|a| (1..a).map(move |b| same(a, b))).collect();
     random.shuffle(&mut pairs);
     pairs.truncate(width);
-    let nobody_meets = if width < 1024 && random.chance(50) { vec![apart(1, 1)] } else { vec![] };
-    vec![pairs, nobody_meets]
+    let withdrawn = vec![vec![]; random.below(2)];
+    [vec![pairs], withdrawn, vec![vec![apart(1, 1)]]].concat()
 }
 
 /// Each lot the same as the one before, and the first apart from the last: a path with all of them joined.

@@ -3,7 +3,7 @@ use crate::case::probe;
 use crate::random::Random;
 use second::limits::{MOST_CONDITIONS, MOST_LOTS, MOST_TERMS};
 use second::sheet::Term;
-use second::writer::{apart, same, sheet_bytes_in};
+use second::writer::{apart, same, sheet_bytes_among};
 
 /// What random conditions look like.
 pub struct Shape {
@@ -12,11 +12,11 @@ pub struct Shape {
     /// At most this many terms in all, and in one condition.
     pub terms: usize,
     pub longest: usize,
-    /// Percentages: "same" terms, a lot twice in a term, a term that stood before, conditions with no term.
+    /// Percentages: "same" terms, a lot twice in a term, a term that stood before, withdrawn conditions.
     pub same: usize,
     pub twice: usize,
     pub repeated: usize,
-    pub empty: usize,
+    pub withdrawn: usize,
     /// The last condition has all terms that are left, so that k is exactly `terms`.
     pub all: bool,
 }
@@ -31,7 +31,7 @@ pub fn tiny(random: &mut Random) -> Vec<u8> {
         same: random.range(20, 100),
         twice: 10,
         repeated: 10,
-        empty: if random.chance(20) { 20 } else { 0 },
+        withdrawn: if random.chance(30) { 20 } else { 0 },
         all: false,
     };
     write(&shape, random)
@@ -47,7 +47,7 @@ pub fn small(random: &mut Random) -> Vec<u8> {
         same: random.range(30, 90),
         twice: random.pick(&[0, 0, 5]),
         repeated: 10,
-        empty: 0,
+        withdrawn: random.pick(&[0, 0, 0, 15]),
         all: false,
     };
     write(&shape, random)
@@ -63,7 +63,7 @@ pub fn medium(random: &mut Random) -> Vec<u8> {
         same: random.range(40, 100),
         twice: random.below(4),
         repeated: 5,
-        empty: random.pick(&[0, 0, 0, 1]),
+        withdrawn: random.pick(&[0, 0, 1, 10]),
         all: false,
     };
     write(&shape, random)
@@ -80,7 +80,7 @@ pub fn dense(random: &mut Random) -> Vec<u8> {
         same: random.range(55, 75),
         twice: 0,
         repeated: 3,
-        empty: 0,
+        withdrawn: random.pick(&[0, 0, 3]),
         all: false,
     };
     write(&shape, random)
@@ -96,7 +96,7 @@ pub fn large(random: &mut Random) -> Vec<u8> {
         same: random.pick(&[50, 70, 90, 100]),
         twice: random.pick(&[0, 0, 3]),
         repeated: random.pick(&[0, 5]),
-        empty: random.pick(&[0, 0, 0, 1]),
+        withdrawn: random.pick(&[0, 0, 1, 20]),
         all: random.chance(60),
     };
     write(&shape, random)
@@ -118,13 +118,24 @@ pub fn write(shape: &Shape, random: &mut Random) -> Vec<u8> {
     write_in_some_order(shape.lots, &conditions, random)
 }
 
-/// Term records in the order of the conditions, or in any order.
+/// Term records in the order of the conditions, or in any order; now and then with vacant records among them.
 pub fn write_in_some_order(lots: usize, conditions: &[Vec<Term>], random: &mut Random) -> Vec<u8> {
-    let mut order: Vec<usize> = (1..=conditions.iter().map(Vec::len).sum()).collect();
-    if random.chance(60) {
-        random.shuffle(&mut order);
+    let terms = conditions.iter().map(Vec::len).sum();
+    let count = terms + if random.chance(35) { vacant_count(terms, random) } else { 0 };
+    let mut places: Vec<usize> = (1..=count).collect();
+    random.shuffle(&mut places);
+    places.truncate(terms);
+    if random.chance(40) {
+        places.sort_unstable();
     }
-    sheet_bytes_in(lots, conditions, &order)
+    sheet_bytes_among(lots, conditions, &places, count)
+}
+
+/// Mostly a few; at times as many as a sheet has room for, or one less.
+fn vacant_count(terms: usize, random: &mut Random) -> usize {
+    let room = MOST_TERMS - terms;
+    let wanted = if random.chance(2) { random.pick(&[room, room.saturating_sub(1)]) } else { random.range(1, 5) };
+    wanted.min(room)
 }
 
 fn conditions(shape: &Shape, random: &mut Random) -> Vec<Vec<Term>> {
@@ -132,11 +143,11 @@ fn conditions(shape: &Shape, random: &mut Random) -> Vec<Vec<Term>> {
     let mut conditions = Vec::new();
     for number in 1..=shape.conditions {
         let left = shape.terms - before.len();
-        if left == 0 && shape.empty == 0 {
+        if left == 0 && shape.withdrawn == 0 {
             break;
         }
         let length = match () {
-            _ if shape.lots == 0 || left == 0 || random.chance(shape.empty) => 0,
+            _ if shape.lots == 0 || left == 0 || random.chance(shape.withdrawn) => 0,
             _ if shape.all && number == shape.conditions => left,
             _ => random.range(1, shape.longest.min(left)),
         };

@@ -2,7 +2,7 @@
 use crate::random::Random;
 use second::limits::{GROUND, SPLIT};
 use second::node::{Decision, Known, Truth};
-use second::sheet::{Sheet, Term};
+use second::sheet::{Sheet, Term, is_withdrawn};
 use second::store::Record;
 
 #[derive(Clone)]
@@ -98,10 +98,15 @@ fn any_pair(lots: usize, random: &mut Random) -> (usize, usize) {
 }
 
 /// A tree that splits on arbitrary pairs, also on pairs that are decided and on a lot twice, until a condition is false. `budget` is the most splits; a
-/// path that has none left ends in some ground, which need not be one. The sheet has a lot and a condition.
+/// path that has none left ends in some ground, which need not be one, and now and then one ends in a ground that names a withdrawn condition. The sheet has a
+/// lot and a condition.
 pub fn grow(sheet: &Sheet, decisions: &mut Vec<Decision>, budget: &mut usize, random: &mut Random) -> Tree {
     let known = Known::from(sheet.lots, decisions);
-    let grounds: Vec<usize> = (1..=sheet.conditions.len()).filter(|c| known.all_false(&sheet.conditions[c - 1])).collect();
+    let grounds: Vec<usize> = (1..=sheet.conditions.len()).filter(|c| known.ground_passes(&sheet.conditions[c - 1])).collect();
+    let withdrawn: Vec<usize> = (1..=sheet.conditions.len()).filter(|c| is_withdrawn(&sheet.conditions[c - 1])).collect();
+    if !withdrawn.is_empty() && random.chance(2) {
+        return Tree::Ground(random.pick(&withdrawn));
+    }
     if !grounds.is_empty() && random.chance(85) {
         return Tree::Ground(random.pick(&grounds));
     }

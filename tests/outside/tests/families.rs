@@ -1,7 +1,7 @@
 //! Families whose count is known, at the ends of what a store can take and of how deep a path can go.
 use outside::case::{Case, probe};
 use outside::compare::searched;
-use outside::families::{bytes, deep, joined, lots, wide, wide_and_met, wide_and_met_count, wide_count};
+use outside::families::{DEEPEST, bytes, deep, joined, lots, wide, wide_and_met, wide_and_met_count, wide_count};
 use outside::lists::{complete, spine};
 use outside::random::Random;
 use outside::run::{run_case, with_stack};
@@ -78,7 +78,7 @@ fn wide_counts() {
 fn deepest_paths() {
     with_stack(|| {
         let mut random = Random::new(11);
-        for (lots, width) in [(46, 1023), (46, 1024), (128, 1023), (128, 1024)] {
+        for (lots, width) in [(46, DEEPEST - 1), (46, DEEPEST), (128, DEEPEST - 1), (128, DEEPEST)] {
             let conditions = deep(lots, width, &mut random);
             let count = 2 * width + 1;
             let sheet = sheet_bytes(lots, &conditions);

@@ -80,4 +80,5 @@ fn each_check_has_its_row_and_a_refusal() {
 fn sheet_c_is_the_sample() {
     assert_eq!(Page::of(TEXT).block("C"), include_bytes!("../../../samples/c.sheet"));
     assert_eq!(Page::of(TEXT).block("C-in-another-order"), include_bytes!("../../../samples/c-in-another-order.sheet"));
+    assert_eq!(Page::of(TEXT).block("C-withdrawn"), include_bytes!("../../../samples/c-withdrawn.sheet"));
 }

@@ -1,5 +1,5 @@
-//! The repacker where the classes of input go by chance: every length of the output around the exact one, pairs of sheets that are alike or nearly so, and the
-//! longest sheets.
+//! The repacker where the classes of input go by chance: every length of the output around the exact one, pairs of sheets that are alike or nearly so, the
+//! longest sheets, and sheets with as many vacant records as there may be.
 use outside::canonical::canonical;
 use outside::case::{Case, canonical_length};
 use outside::random::Random;
@@ -9,7 +9,7 @@ use outside::tally::Tally;
 use second::limits::{MOST_CONDITIONS, MOST_LOTS, MOST_TERMS};
 use second::reader::accept;
 use second::sheet::{Sign, Term};
-use second::writer::{apart, same, sheet_bytes_in};
+use second::writer::{apart, same, sheet_bytes_among, sheet_bytes_in};
 
 /// All services on the sheet, with an output of each of these lengths.
 fn with_outputs(sheet: &[u8], lengths: impl Iterator<Item = usize>, random: &mut Random, tally: &mut Tally) {
@@ -43,12 +43,13 @@ type Conditions = Vec<Vec<Term>>;
 /// Lots and conditions after one edit, which may leave them as they were.
 fn edited(lots: usize, mut conditions: Conditions, random: &mut Random) -> (usize, Conditions) {
     let count = conditions.len();
-    match random.below(6) {
+    match random.below(7) {
         0 => return (lots + 1, conditions),
         1 => conditions.insert(random.below(count + 1), vec![]),
         2 if count > 0 => drop(conditions.remove(random.below(count))),
         3 if count > 0 => conditions.swap(random.below(count), random.below(count)),
         4 if count > 0 => edit_terms(&mut conditions[random.below(count)], random),
+        6 if count > 0 => conditions[random.below(count)].clear(),
         // The records stay in their order, and one passes to the condition after its own.
         5 if count > 1 => {
             let at = random.below(count - 1);
@@ -114,5 +115,25 @@ fn longest_sheets() {
             with_outputs(&sheet, [0, exact - 1, exact, exact + 1, 65_536, 65_537].into_iter(), &mut random, &mut tally);
         }
         assert_eq!((tally.seen("repacker", 0), tally.seen("repacker", 16)), (12, 6));
+    });
+}
+
+/// No condition, withdrawn ones alone, or a few with terms, and vacant records up to the most: the packed sheet is shorter, and an output of its length is
+/// enough.
+#[test]
+fn as_many_vacant_records_as_there_may_be() {
+    with_stack(|| {
+        let (mut random, mut tally) = (Random::new(54), Tally::default());
+        let none: Conditions = vec![];
+        let withdrawn = vec![vec![]; MOST_CONDITIONS];
+        let few = vec![vec![], vec![same(1, 2), same(2, 3)], vec![], vec![apart(1, 3)], vec![]];
+        for (conditions, packed) in [(none, 6), (withdrawn, 6 + 2 * MOST_CONDITIONS), (few, 6 + 2 * 5 + 8 * 3)] {
+            let places = [MOST_TERMS, 1, 500];
+            let terms = conditions.iter().map(Vec::len).sum();
+            let sheet = sheet_bytes_among(3, &conditions, &places[..terms], MOST_TERMS);
+            assert_eq!(canonical_length(&sheet), packed);
+            with_outputs(&sheet, [0, packed - 1, packed, packed + 1, sheet.len()].into_iter(), &mut random, &mut tally);
+        }
+        assert_eq!((tally.seen("repacker", 0), tally.seen("repacker", 16)), (9, 6));
     });
 }

@@ -2,9 +2,9 @@
 //! program, and so the test.
 use lihumbay::raw;
 use outside::compare::plain;
-use outside::families::{deep, joined};
+use outside::families::{DEEPEST, deep, joined};
 use outside::random::Random;
-use second::limits::{MOST_NODES, NODE_LENGTH};
+use second::limits::{MOST_NODES, MOST_TERMS, NODE_LENGTH};
 use second::writer::{sheet_bytes, sheet_bytes_in};
 use std::thread;
 
@@ -40,10 +40,10 @@ fn others(sheet: Vec<u8>, list: Vec<u8>) {
 #[test]
 fn deepest_searches_fit_and_so_do_the_others_on_them() {
     let mut random = Random::new(41);
-    let backwards: Vec<usize> = (1..=1024).rev().collect();
+    let backwards: Vec<usize> = (1..=MOST_TERMS).rev().collect();
     for sheet in [
-        sheet_bytes(46, &deep(46, 1024, &mut random)),
-        sheet_bytes_in(128, &deep(128, 1024, &mut random), &backwards),
+        sheet_bytes(46, &deep(46, DEEPEST, &mut random)),
+        sheet_bytes_in(128, &deep(128, DEEPEST, &mut random), &backwards),
         sheet_bytes(128, &joined(128)),
     ] {
         let (answer, list) = searched(sheet.clone());

@@ -7,7 +7,7 @@ use outside::tree::{ground, split};
 use second::reader::accept;
 use second::sheet::Term;
 use second::store::{Record, list_bytes};
-use second::writer::{apart, same, sheet_bytes, sheet_bytes_in};
+use second::writer::{apart, same, sheet_bytes, sheet_bytes_among, sheet_bytes_in};
 use std::collections::HashMap;
 
 /// All lists of `length` values out of `values`.
@@ -40,6 +40,12 @@ fn records(signs: (u8, u8), most_spare: u8, a: (u8, u8), b: (u8, u8), most_next:
     all
 }
 
+/// The vacant record, and those that have one byte other than zero.
+fn nearly_vacant() -> Vec<Vec<u8>> {
+    let one_byte = |at: usize| (0..8).map(|byte| u8::from(byte == at)).collect();
+    [vec![vec![0; 8]], (0..8).map(one_byte).collect()].concat()
+}
+
 /// The search's own list, exactly its room and that of the canonical bytes. The store is a byte shorter where the count is even, so that 9 is seen too, and the
 /// output where the sheet's bytes have an odd sum, so that 16 is.
 fn case(sheet: Vec<u8>) -> Case {
@@ -69,14 +75,18 @@ fn all_sheets(lots: u8, conditions: u8, terms: usize, records: &[Vec<u8>], visit
     });
 }
 
-/// All sheets of up to 2 lots, conditions and records, their fields in and around what is accepted.
+/// All sheets of up to 2 lots, conditions and records, their fields in and around what is accepted; and all of 1 lot and 3 records that are vacant or a term,
+/// so that chains come to vacant records and back to their own in every order.
 fn all_small_sheets(visit: &mut impl FnMut(Vec<u8>)) {
-    for lots in 0..=2 {
-        for conditions in 0..=2 {
+    for conditions in 0..=2 {
+        for lots in 0..=2 {
             all_sheets(lots, conditions, 0, &[], visit);
             all_sheets(lots, conditions, 1, &records((0, 3), 1, (0, lots + 1), (0, lots + 1), 2), visit);
-            all_sheets(lots, conditions, 2, &records((1, 3), 0, (0, lots), (1, lots.max(1)), 3), visit);
+            let two = [records((1, 3), 0, (0, lots), (1, lots.max(1)), 3), nearly_vacant()].concat();
+            all_sheets(lots, conditions, 2, &two, visit);
         }
+        let three = [records((1, 1), 0, (1, 1), (1, 1), 3), vec![vec![0; 8]]].concat();
+        all_sheets(1, conditions, 3, &three, visit);
     }
 }
 
@@ -89,13 +99,13 @@ fn all_small_sheets_byte_by_byte() {
             run_case(&case(sheet), &mut tally);
             count += 1;
         });
-        say(&format!("{count} sheets of up to 2 lots, conditions and records, byte by byte"));
-        (4..=7).for_each(|check| assert!(tally.seen("reader", check) > 100, "check {check}"));
+        say(&format!("{count} sheets of up to 2 lots and conditions and 3 records, byte by byte"));
+        [0, 4, 5, 6, 7, 17].iter().for_each(|&check| assert!(tally.seen("reader", check) > 100, "check {check}"));
         [0, 16].iter().for_each(|&check| assert!(tally.seen("repacker", check) > 100, "check {check}"));
     });
 }
 
-/// All conditions of up to two of these terms.
+/// All conditions of up to two of these terms: the one with none is withdrawn.
 fn conditions_of(terms: &[Term]) -> Vec<Vec<Term>> {
     let mut all = Vec::new();
     (0..=2).for_each(|length| each(terms, length, &mut |condition| all.push(condition.to_vec())));
@@ -127,14 +137,15 @@ fn all_short_lists() {
     with_stack(|| {
         let mut tally = Tally::default();
         let mut count = 0;
-        let sheet = sheet_bytes(2, &[vec![same(1, 2)], vec![apart(1, 2)]]);
+        // Condition 3 is withdrawn, and there is no condition 4.
+        let sheet = sheet_bytes(2, &[vec![same(1, 2)], vec![apart(1, 2)], vec![]]);
         let mut run = |records: &[Record]| {
             let list = list_bytes(records);
             let case = Case { sheet: sheet.clone(), grouping: vec![1, 1], store_length: 24, list, out_length: sheet.len(), fill: 1 };
             run_case(&case, &mut tally);
             count += 1;
         };
-        let odd = [Record { kind: 3, ..ground(0) }, Record { spare: 1, ..ground(1) }, ground(3), split(1, 3, 3)];
+        let odd = [Record { kind: 3, ..ground(0) }, Record { spare: 1, ..ground(1) }, ground(3), ground(4), split(1, 3, 3)];
         let mut values: Vec<Record> = vec![ground(1), ground(2)];
         for next in [0, 2, 3, 4] {
             values.extend([split(1, 2, next), split(2, 1, next), split(1, 1, next)]);
@@ -199,8 +210,10 @@ fn canonical_bytes_in_all_orders_of_the_records() {
     for length in 0..=3 {
         each(&conditions, length, &mut |conditions| {
             let terms = conditions.iter().map(Vec::len).sum::<usize>();
-            let in_order = |order: &Vec<usize>| sheet_bytes_in(2, conditions, order);
-            orders[terms].iter().for_each(|order| forms.add(&in_order(order)));
+            orders[terms].iter().for_each(|order| forms.add(&sheet_bytes_in(2, conditions, order)));
+            // With one place more than terms, the place that is left over is vacant: each of them, with each order of the others.
+            let one_more = orders.get(terms + 1).map_or(&[][..], Vec::as_slice);
+            one_more.iter().for_each(|order| forms.add(&sheet_bytes_among(2, conditions, &order[..terms], terms + 1)));
         });
     }
     say(&format!("{} sheets in all orders of their records have {} canonical forms", forms.sheets(), forms.seen.len()));

@@ -6,7 +6,7 @@ use outside::run::{say, with_stack};
 use outside::sheets::{Shape, write};
 use second::limits::MOST_NODES;
 use second::reader::accept;
-use second::sheet::{Sheet, Sign, Term};
+use second::sheet::{Sheet, Sign, Term, is_withdrawn};
 use std::fmt::Write as _;
 use std::io::Write as _;
 use std::process::{Command, Stdio};
@@ -25,7 +25,7 @@ fn sheet(random: &mut Random) -> Vec<u8> {
         same: random.range(30, 80),
         twice: random.below(3),
         repeated: 3,
-        empty: 0,
+        withdrawn: random.pick(&[0, 5]),
         all: false,
     };
     write(&shape, random)
@@ -53,7 +53,8 @@ fn script(sheet: &Sheet) -> String {
     for lot in 1..=sheet.lots {
         writeln!(text, "(declare-const x{lot} Int)").expect("a string takes all");
     }
-    for condition in &sheet.conditions {
+    // A withdrawn condition is true, and asserts nothing.
+    for condition in sheet.conditions.iter().filter(|condition| !is_withdrawn(condition)) {
         let terms: Vec<String> = condition.iter().map(term).collect();
         writeln!(text, "(assert (or false {}))", terms.join(" ")).expect("a string takes all");
     }
