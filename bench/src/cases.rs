@@ -1,5 +1,5 @@
 //! The sheets that the searches run on, with the answer and the count that each is known to have.
-use crate::families::{self, chain, circ, colouring, long_condition, mixed, phe, random, two_ways, worst_case};
+use crate::families::{chain, circ, colouring, half_withdrawn, long_condition, mixed, phe, random, two_ways, worst_case};
 use crate::records::MOST;
 use crate::sheets::Sheet;
 use crate::slow::{self, First};
@@ -32,12 +32,6 @@ fn long_conditions() -> Vec<Case> {
         case(&key, &name, "long condition", long_condition(terms), Answer::Cannot, 2 * terms + 1)
     };
     [255, 511, 1023].map(one).into()
-}
-
-/// The longest path that a sheet can have; it is measured by the checker's jobs.
-pub fn deep(terms: usize) -> Case {
-    let (key, name) = (format!("deep-{terms}"), format!("one condition of {terms} terms, one of none"));
-    case(&key, &name, "long condition", families::deep(terms), Answer::Cannot, 2 * terms + 1)
 }
 
 /// With G = 1 + w + .. + w^r the tree has G grounds and G - 1 splits.
@@ -143,9 +137,18 @@ fn slow_others() -> Vec<Case> {
     vec![steady, classes, star, few((9, true, "latest")), few((3, false, "earliest"))]
 }
 
+/// Two of the sheets above with as many withdrawn conditions among their own: these cost what differs from the sheet's own row.
+fn withdrawn() -> Vec<Case> {
+    let (colours, links) = (half_withdrawn(colouring(14, 4, 20, 100)), half_withdrawn(chain(128)));
+    vec![
+        case("withdrawn-colours", "20 lots in 4 groups, as many withdrawn", "withdrawn", colours, Answer::Cannot, 37225),
+        case("withdrawn-chain", "chain of 128 lots, as many withdrawn", "withdrawn", links, Answer::Cannot, 255),
+    ]
+}
+
 pub fn all() -> Vec<Case> {
     let of_before = [long_conditions(), worst_cases(), of_document_001(), random_sheets(), colourings(), chains()];
-    of_before.into_iter().chain([slow_products(), slow_others()]).flatten().collect()
+    of_before.into_iter().chain([slow_products(), slow_others(), withdrawn()]).flatten().collect()
 }
 
 /// Sheets of one kind for the cost of a node against sizes: a condition of 4 terms multiplies nodes, and each false term is over the pair that was set apart first. The
@@ -168,8 +171,12 @@ mod tests {
     fn sheets_are_within_the_format_and_have_names_of_their_own() {
         let (mut keys, mut names) = (HashSet::new(), HashSet::new());
         for case in all().into_iter().chain(sizes().into_iter().map(|(_, _, case)| case)) {
-            let (lots, conditions, terms) = (case.sheet.lots, case.sheet.conditions.len(), case.sheet.terms());
-            assert!(lots <= 128 && conditions <= 256 && terms <= 1024, "{}: {lots} lots, {conditions} conditions, {terms} terms", case.key);
+            let (lots, conditions, records) = (case.sheet.lots, case.sheet.conditions.len(), case.sheet.records());
+            assert!(
+                lots <= 128 && conditions <= 256 && records <= 1024,
+                "{}: {lots} lots, {conditions} conditions, {records} records",
+                case.key
+            );
             assert!((case.nodes > MOST) == (case.answer == Answer::Full), "{}: {} nodes", case.key, case.nodes);
             assert!(keys.insert(case.key) && names.insert(case.name));
         }

@@ -1,10 +1,10 @@
 //! Nothing is timed before the contenders agree: in the answer, in the count that the input is known to have, and in every byte of all buffers.
 use crate::jobs::{Buffers, Job, OWN, PAINT, Service, packed_length};
-use crate::records::{answered, refused};
+use crate::random::Random;
+use crate::records::{self, refused};
 use crate::repack::{self, Repack};
-use crate::sheets::{MOST_BYTES, Sheet};
-use crate::{families, lists, read};
-use lihumbay::raw::Numbers;
+use crate::sheets::{Condition, MOST_BYTES, Sheet};
+use crate::{families, lists, read, terms};
 use std::ops::RangeInclusive;
 
 /// Changed lists are tried where a list is shorter than this.
@@ -54,11 +54,38 @@ fn each_change(sheet: &[u8], same: impl Fn(&[u8], &str, usize)) {
     }
 }
 
+fn same_reading(name: &str, bytes: &[u8], what: &str, at: usize) {
+    let answers = read::ALL.map(|(_, read)| read(bytes));
+    assert!(answers.iter().all(|answer| *answer == answers[0]), "{name}: the readers differ, {what} {at}");
+}
+
 fn changed_readings(job: &Job) {
-    each_change(&job.bytes, |bytes, what, at| {
-        let answers = read::ALL.map(|(_, read)| read(bytes));
-        assert!(answers.iter().all(|answer| *answer == answers[0]), "{}: the readers differ, {what} {at}", job.name);
-    });
+    each_change(&job.bytes, |bytes, what, at| same_reading(&job.name, bytes, what, at));
+}
+
+/// Up to three changes at once, each a record that becomes vacant, or a head or a next that is zero, the following record or any other: chains come to vacant
+/// records and to records that were reached before, and leave others out.
+fn changed_chains(job: &Job, seed: u64) {
+    let mut random = Random::new(seed);
+    let (_, conditions, records) = terms::header(&job.bytes);
+    let front = 6 + 2 * conditions;
+    for round in 0..200 {
+        let mut bytes = job.bytes.clone();
+        for _ in 0..=random.below(3) {
+            let record = random.below(records);
+            let at = front + 8 * record;
+            let name = [0, record + 2, random.below(records + 1)][random.below(3)] as u16;
+            match random.below(3) {
+                0 => bytes[at..at + 8].fill(0),
+                1 => bytes[at + 6..at + 8].copy_from_slice(&name.to_le_bytes()),
+                _ => {
+                    let head = 6 + 2 * random.below(conditions);
+                    bytes[head..head + 2].copy_from_slice(&name.to_le_bytes());
+                }
+            }
+        }
+        same_reading(&job.name, &bytes, "chains changed, round", round);
+    }
 }
 
 /// The repackers that check the sheet on every changed one, the others on those that a reader accepts.
@@ -76,10 +103,10 @@ fn changed_repackings(job: &Job) {
     });
 }
 
-/// Repackings into outputs of these lengths. The bytes written are known: the sheet's with its records in order. The rest of the output stays as it was, and so
-/// does the whole where it is too short.
+/// Repackings into outputs of these lengths. The bytes written are known: the packed sheet's. The rest of the output stays as it was, and so does the
+/// whole where it is too short.
 fn outputs(job: &Job, lengths: RangeInclusive<usize>) {
-    let packed = job.sheet.bytes();
+    let packed = job.sheet.packed();
     for length in lengths {
         let (known, written) = if length < packed.len() { (refused(16, packed.len()), 0) } else { (job.known, packed.len()) };
         for (name, repack) in repack::ALL {
@@ -91,23 +118,82 @@ fn outputs(job: &Job, lengths: RangeInclusive<usize>) {
     }
 }
 
-/// A random sheet with its records in random order.
-fn random_job(service: Service, seed: u64, sheet: Sheet, known: Numbers) -> Job {
-    let (key, name, bytes) = (String::new(), format!("random sheet {seed}"), sheet.bytes_shuffled(seed));
-    let (units, list) = (1, Vec::new());
-    Job { service, key, name, family: "random", sheet, bytes, list, units, known }
+/// A sheet with its records in order or, with a seed, in random order. Of the answers only a repacker's is known.
+fn job_of(service: Service, name: String, sheet: &Sheet, shuffled: Option<u64>) -> Job {
+    let bytes = shuffled.map_or_else(|| sheet.bytes(), |seed| sheet.bytes_shuffled(seed));
+    let known = packed_length(sheet);
+    Job { service, key: String::new(), name, family: "compared", sheet: sheet.clone(), bytes, list: Vec::new(), units: 1, known }
 }
 
-/// Searches and repackings of random sheets, of few lots and of many. The search's answers aren't known beforehand. For the repackers some conditions have
-/// no term.
+/// The refutation that the product's search writes for a sheet, if it isn't long; and with its first ground naming a withdrawn condition instead, each in turn,
+/// which check 12 refuses.
+fn refutation(search: &Job) {
+    let mut buffers = Buffers::new();
+    let answer = search.run(0, &mut buffers);
+    if (answer.check, answer.first) != (0, 2) || 8 * answer.second as usize >= SHORT_LIST {
+        return;
+    }
+    let list = buffers.store[..8 * answer.second as usize].to_vec();
+    let ground = list.chunks(8).position(|record| record[0] == 2).expect("a refutation has a ground");
+    let bytes = search.bytes.clone();
+    let mut job = Job { list, bytes, ..job_of(Service::Check, search.name.clone(), &search.sheet, None) };
+    agree(&job, ", its own refutation");
+    let withdrawn = |c: &usize| search.sheet.conditions[*c].terms.is_empty();
+    for c in (0..search.sheet.conditions.len()).filter(withdrawn) {
+        job.list[8 * ground..8 * ground + 8].copy_from_slice(&records::ground(c + 1));
+        agree(&job, ", a ground of a withdrawn condition");
+        let product = job.run(0, &mut buffers);
+        assert!(product == refused(12, ground + 1), "{}: {product:?} to a ground of a withdrawn condition", job.name);
+    }
+}
+
+/// Every service on a sheet.
+fn sheet_agrees(name: String, sheet: &Sheet, shuffled: Option<u64>) {
+    let job = |service| job_of(service, name.clone(), sheet, shuffled);
+    agree(&job(Service::Read), "");
+    let search = job(Service::Search);
+    agree(&search, "");
+    refutation(&search);
+    let (repack, packed) = (job(Service::Repack), sheet.packed().len());
+    outputs(&repack, packed - 1..=packed + 1);
+    outputs(&repack, repack.bytes.len() - 1..=repack.bytes.len() + 1);
+}
+
+/// Random sheets, of few lots and of many, as they are and with each second to sixth condition withdrawn, so that records are vacant. The searches' answers
+/// aren't known beforehand.
 pub fn random_sheets() {
     for seed in 1..=100 {
         let mut sheet = families::mixed(seed, 4 + seed as usize);
-        agree(&random_job(Service::Search, seed, sheet.clone(), answered(0, 0, 0)), "");
-        sheet.conditions.iter_mut().step_by(1 + seed as usize).for_each(Vec::clear);
-        let known = packed_length(&sheet);
-        let job = random_job(Service::Repack, seed, sheet, known);
-        outputs(&job, job.bytes.len() - 1..=job.bytes.len() + 1);
+        sheet_agrees(format!("random sheet {seed}"), &sheet, Some(seed));
+        sheet.conditions.iter_mut().step_by(2 + seed as usize % 5).for_each(Condition::withdraw);
+        for shuffled in [None, Some(seed)] {
+            let name = format!("random sheet {seed}, some conditions withdrawn");
+            sheet_agrees(name.clone(), &sheet, shuffled);
+            changed_chains(&job_of(Service::Read, name, &sheet, shuffled), seed);
+        }
+    }
+}
+
+/// A small sheet with each set of its conditions withdrawn, read with each change too; and vacant records alone, without a lot.
+pub fn withdrawn_sheets() {
+    let whole = families::two_ways(1);
+    let sets = (0..1 << whole.conditions.len()).map(|set: u32| {
+        let mut sheet = whole.clone();
+        let withdrawn = |c: &usize| set >> c & 1 == 1;
+        (0..sheet.conditions.len()).filter(withdrawn).for_each(|c| sheet.conditions[c].withdraw());
+        sheet
+    });
+    let mut vacant = Sheet::new(0);
+    vacant.withdrawn(3);
+    for (i, sheet) in sets.chain([vacant]).enumerate() {
+        for shuffled in [None, Some(1)] {
+            let name = format!("small sheet {i}, some conditions withdrawn");
+            sheet_agrees(name.clone(), &sheet, shuffled);
+            let read = job_of(Service::Read, name.clone(), &sheet, shuffled);
+            changed_readings(&read);
+            changed_chains(&read, i as u64);
+            changed_repackings(&job_of(Service::Repack, name, &sheet, shuffled));
+        }
     }
 }
 

@@ -7,7 +7,8 @@ fn same_pairs(lots: usize, terms: usize) -> Vec<Term> {
     (1..=lots).flat_map(|a| (a + 1..=lots).map(move |b| same(a, b))).take(terms).collect()
 }
 
-/// One condition of "same" terms, and one "apart 1 1": 2 * terms + 1 nodes, on a path of `terms` splits.
+/// One condition of "same" terms, and one "apart 1 1": 2 * terms + 1 nodes, on a path of `terms` splits. With 1,023 terms no sheet has a longer
+/// path: one of 1,024 splits would need as many "same" terms, and a sheet without an "apart" term has no ground.
 pub fn long_condition(terms: usize) -> Sheet {
     let mut sheet = Sheet::new(128);
     sheet.condition(same_pairs(128, terms));
@@ -15,11 +16,10 @@ pub fn long_condition(terms: usize) -> Sheet {
     sheet
 }
 
-/// One condition of "same" terms, and one with no term. With 1,024 terms no sheet has a longer path.
-pub fn deep(terms: usize) -> Sheet {
+/// The longest chain that a sheet can have, of 1,024 "same" terms.
+pub fn longest_chain() -> Sheet {
     let mut sheet = Sheet::new(128);
-    sheet.condition(same_pairs(128, terms));
-    sheet.condition([]);
+    sheet.condition(same_pairs(128, 1024));
     sheet
 }
 
@@ -131,4 +131,16 @@ pub fn two_ways(links: usize) -> Sheet {
     }
     sheet.condition([apart(1, 3 * links + 1)]);
     sheet
+}
+
+/// A sheet with a withdrawn condition before each of its own, whose vacant records fill it up to 1,024. The nodes are the sheet's, but that grounds name
+/// conditions by other numbers.
+pub fn half_withdrawn(sheet: Sheet) -> Sheet {
+    let (count, room) = (sheet.conditions.len(), 1024 - sheet.records());
+    let mut half = Sheet::new(sheet.lots);
+    for (i, condition) in sheet.conditions.into_iter().enumerate() {
+        half.withdrawn((i + 1) * room / count - i * room / count);
+        half.conditions.push(condition);
+    }
+    half
 }

@@ -32,7 +32,7 @@ impl Service {
         match self {
             Service::Search => "node",
             Service::Check => "record",
-            Service::Read | Service::Repack => "term",
+            Service::Read | Service::Repack => "term record",
         }
     }
 
@@ -55,7 +55,7 @@ pub struct Job {
     pub bytes: Vec<u8>,
     /// The records that the checker walks; empty for the other services.
     pub list: Vec<u8>,
-    /// How many nodes, records or terms.
+    /// How many nodes, records of a list, or term records.
     pub units: usize,
     pub known: Numbers,
 }
@@ -134,12 +134,12 @@ fn ground_jobs(wanted: &dyn Fn(&str) -> bool) -> Vec<Job> {
         let key = format!("grounds-{terms}-{pairs}");
         if wanted(&key) {
             let name = format!("grounds of {terms} terms, {pairs} pairs apart");
-            jobs.push(check_job(key, name, "slow list", families::deep(terms), |_| lists::apart(pairs)));
+            jobs.push(check_job(key, name, "slow list", families::long_condition(terms), |_| lists::apart(pairs)));
         }
     }
     if wanted("growing-500-750") {
         let name = "grounds of 500 terms, 500 to 750 pairs apart".into();
-        jobs.push(check_job("growing-500-750".into(), name, "slow list", families::deep(500), |_| lists::growing(500, 250)));
+        jobs.push(check_job("growing-500-750".into(), name, "slow list", families::long_condition(500), |_| lists::growing(500, 250)));
     }
     for (joins, word, what) in [(Joins::Free, "classes", "other classes"), (Joins::Marked, "moved", "marks moved")] {
         for (terms, pairs) in [(250, 250), (500, 500), (1000, 1000)] {
@@ -156,13 +156,13 @@ fn ground_jobs(wanted: &dyn Fn(&str) -> bool) -> Vec<Job> {
 
 /// The lists by key; a list is made only where it is wanted, since the search's own take a search.
 fn check_jobs(wanted: &dyn Fn(&str) -> bool) -> Vec<Job> {
-    let refuted = cases::all().into_iter().chain([cases::deep(1024)]).filter(|case| case.answer == Answer::Cannot);
+    let refuted = cases::all().into_iter().filter(|case| case.answer == Answer::Cannot);
     let mut jobs: Vec<Job> = refuted.filter(|case| wanted(&format!("own-{}", case.key))).map(own_job).collect();
     for joins in [0, 127] {
         let key = format!("splits-1024-{joins}");
         if wanted(&key) {
             let name = format!("1,024 splits above, {joins} join");
-            jobs.push(check_job(key, name, "slow list", families::deep(1024), |_| lists::deep(joins)));
+            jobs.push(check_job(key, name, "slow list", families::long_condition(1023), |_| lists::deep(joins)));
         }
     }
     jobs.extend(ground_jobs(wanted));
@@ -171,24 +171,27 @@ fn check_jobs(wanted: &dyn Fn(&str) -> bool) -> Vec<Job> {
 
 /// What a reader answers to a sheet.
 fn counts(sheet: &Sheet) -> Numbers {
-    answered(sheet.lots as u32, sheet.conditions.len() as u32, sheet.terms() as u32)
+    answered(sheet.lots as u32, sheet.conditions.len() as u32, sheet.records() as u32)
 }
 
 /// What a repacker answers to a sheet, in whatever order its records stand.
 pub fn packed_length(sheet: &Sheet) -> Numbers {
-    answered(sheet.bytes().len() as u32, 0, 0)
+    answered(sheet.packed().len() as u32, 0, 0)
 }
 
 /// The reader and the repacker have the same inputs.
 fn sheet_jobs(service: Service, known: fn(&Sheet) -> Numbers) -> Vec<Job> {
-    let (largest, one_chain, small) = (families::random(1, 256, 4), families::deep(1024), families::chain(4));
+    let (largest, one_chain, small) = (families::random(1, 256, 4), families::longest_chain(), families::chain(4));
+    let withdrawn = families::half_withdrawn(families::random(1, 128, 4));
     let job = |key: &str, name: &str, sheet: &Sheet, bytes: Vec<u8>| {
-        let (known, units) = (known(sheet), sheet.terms());
+        let (known, units) = (known(sheet), sheet.records());
         Job { service, key: key.into(), name: name.into(), family: "sheet", sheet: sheet.clone(), bytes, list: Vec::new(), units, known }
     };
     vec![
         job("largest", "256 conditions of 4 terms, records in order", &largest, largest.bytes()),
         job("largest-mixed", "the same, records in random order", &largest, largest.bytes_shuffled(1)),
+        job("withdrawn", "256 conditions of 4 terms, half withdrawn, in order", &withdrawn, withdrawn.bytes()),
+        job("withdrawn-mixed", "the same, half withdrawn, in random order", &withdrawn, withdrawn.bytes_shuffled(1)),
         job("one-chain", "one condition of 1,024 terms, in order", &one_chain, one_chain.bytes()),
         job("one-chain-mixed", "the same, in random order", &one_chain, one_chain.bytes_shuffled(1)),
         job("small", "4 conditions of 1 term", &small, small.bytes()),

@@ -38,7 +38,7 @@ impl List {
         self.tree(grounds / 2, condition, depth + 1, lots);
     }
 
-    /// Each pair set apart, one split for each; the grounds in their same branches name condition 2, which has no term.
+    /// Each pair set apart, one split for each; the grounds in their same branches name condition 2, which is "apart 1 1".
     fn set_apart(&mut self, pairs: impl IntoIterator<Item = (usize, usize)>) {
         for (a, b) in pairs {
             let split = self.split(a, b);
@@ -77,8 +77,8 @@ fn first_pairs() -> impl Iterator<Item = (usize, usize)> {
     (1..=128).flat_map(|a| (a + 1..=128).map(move |b| (a, b)))
 }
 
-/// For a sheet whose condition 2 has no term: 1,009 splits, and below them, in their same branches, a tree of 31,759 grounds that each stand under 1,023 or 1,024
-/// splits; 65,535 records. The first `joins` of the 1,009 splits join two lots each, the other splits name lot 1 twice.
+/// For a sheet whose condition 2 is "apart 1 1": 1,009 splits, and below them, in their same branches, a tree of 31,759 grounds that each stand under 1,023 or
+/// 1,024 splits; 65,535 records. The first `joins` of the 1,009 splits join two lots each, the other splits name lot 1 twice.
 pub fn deep(joins: usize) -> Vec<u8> {
     let mut list = List::default();
     let splits: Vec<usize> = (0..CHAIN).map(|i| if i < joins { list.split(i + 1, i + 2) } else { list.split(1, 1) }).collect();

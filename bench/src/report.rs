@@ -34,9 +34,10 @@ fn compared(service: Service) -> impl Iterator<Item = Job> {
 }
 
 pub fn compare_all() {
+    compare::withdrawn_sheets();
     compare::random_sheets();
     let count = Service::ALL.into_iter().flat_map(compared).count();
-    println!("{count} inputs and 100 random sheets: all contenders agree");
+    println!("{count} inputs, 33 small and 100 random sheets: all contenders agree");
 }
 
 /// Times the contenders of a job in turns.
@@ -142,6 +143,7 @@ fn machine() -> String {
 
 pub fn measure(plan: Plan) {
     let machine = machine();
+    compare::withdrawn_sheets();
     compare::random_sheets();
     let rows: Vec<Row> = Service::ALL.into_iter().flat_map(|service| measure_service(plan, service)).collect();
     save("machine.txt", &format!("{} rounds of {} s; {machine}", plan.rounds, plan.batch));
@@ -173,9 +175,9 @@ pub fn write() {
         ("check times", tables::times(&rows, "check", "Record")),
         ("check instructions", tables::instructions(&rows, "check")),
         ("sizes", tables::plain(&load("sizes.tsv"))),
-        ("read times", tables::times(&rows, "read", "Term")),
+        ("read times", tables::times(&rows, "read", "Term record")),
         ("read instructions", tables::instructions(&rows, "read")),
-        ("repack times", tables::times(&rows, "repack", "Term")),
+        ("repack times", tables::times(&rows, "repack", "Term record")),
         ("repack instructions", tables::instructions(&rows, "repack")),
         ("z3", tables::plain(&load("z3.tsv"))),
         ("stack", tables::plain(&load("stack.tsv"))),

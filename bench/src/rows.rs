@@ -13,7 +13,7 @@ pub struct Row {
     pub longest: usize,
     pub units: usize,
     pub contender: String,
-    /// Nanoseconds a unit: a node, a record or a term.
+    /// Nanoseconds a unit: a node, a record of a list, or a term record.
     pub time: Spread,
     /// The product's time divided by this contender's, round by round.
     pub ratio: Spread,
@@ -32,7 +32,7 @@ impl Row {
             family: job.family.into(),
             answer: job.answer().into(),
             terms: job.sheet.terms(),
-            longest: job.sheet.conditions.iter().map(Vec::len).max().unwrap_or(0),
+            longest: job.sheet.longest(),
             units: job.units,
             contender: contender.into(),
             time: taken.time.times(1e9 / job.units as f64),

@@ -136,10 +136,10 @@ pub fn ground_pairs(count: usize) -> Vec<(usize, usize)> {
     pairs(count).1.into_iter().map(|(a, b)| (FREE_LOTS + a, FREE_LOTS + b)).collect()
 }
 
-/// For the checker's lists: a condition of `terms` "same" terms over the first of some pairs, and one with no term.
+/// For the checker's lists: a condition of `terms` "same" terms over the first of some pairs, and one "apart 1 1".
 pub fn grounds(terms: usize, apart_pairs: usize) -> Sheet {
     let mut sheet = Sheet::new(FREE_LOTS + pairs(apart_pairs).0);
     sheet.condition(again(&ground_pairs(apart_pairs), terms));
-    sheet.condition([]);
+    sheet.condition([apart(1, 1)]);
     sheet
 }

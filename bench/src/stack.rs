@@ -1,5 +1,5 @@
-//! How much stack a search and a check take on the longest path that a sheet can have, 1,024 splits, and a repacking on the longest chain: the call runs on a
-//! painted stack of 8 MB, and what was painted over is counted.
+//! How much stack a search takes on the longest path that it can have, 1,023 splits, a check on the longest that a list can have, 1,024, and a repacking on the
+//! longest chain: the call runs on a painted stack of 8 MB, and what was painted over is counted.
 use crate::jobs::{Buffers, packed_length};
 use crate::records::answered;
 use crate::{check, families, lists, repack, search};
@@ -54,13 +54,13 @@ fn used(call: &mut dyn FnMut()) -> usize {
 /// The stack of each search, each checker and each repacker, by name.
 pub fn all() -> Vec<(String, usize)> {
     let thread = used(&mut || {});
-    let deep = families::deep(1024);
-    let (sheet, mixed, list) = (deep.bytes(), deep.bytes_shuffled(1), lists::deep(127));
-    let packed = packed_length(&deep);
+    let (sheet, list) = (families::long_condition(1023).bytes(), lists::deep(127));
+    let chain = families::longest_chain();
+    let (mixed, packed) = (chain.bytes_shuffled(1), packed_length(&chain));
     let mut rows = Vec::new();
     for (name, search) in search::ALL {
         let mut buffers = Buffers::new();
-        let bytes = used(&mut || assert!(search(&sheet, &mut buffers.grouping, &mut buffers.store) == answered(2, 2049, 0)));
+        let bytes = used(&mut || assert!(search(&sheet, &mut buffers.grouping, &mut buffers.store) == answered(2, 2047, 0)));
         rows.push((format!("search, {name}"), bytes - thread));
     }
     for (name, check) in check::ALL {
@@ -76,9 +76,9 @@ pub fn all() -> Vec<(String, usize)> {
 
 /// The product's search and check once on the program's own stack, so that a limit set by the shell is tried.
 pub fn on_own() {
-    let (sheet, list) = (families::deep(1024).bytes(), lists::deep(127));
+    let (sheet, list) = (families::long_condition(1023).bytes(), lists::deep(127));
     let mut buffers = Buffers::new();
-    assert!(search::ALL[0].1(&sheet, &mut buffers.grouping, &mut buffers.store) == answered(2, 2049, 0));
+    assert!(search::ALL[0].1(&sheet, &mut buffers.grouping, &mut buffers.store) == answered(2, 2047, 0));
     black_box(&buffers);
     assert!(check::ALL[0].1(&sheet, &list).check == 0);
 }

@@ -22,16 +22,16 @@ fn term(term: &Term) -> String {
     }
 }
 
-/// A sheet as a script: lots are constants of a sort of their own.
+/// A sheet as a script: lots are constants of a sort of their own, and a withdrawn condition is true.
 fn script(sheet: &Sheet) -> String {
     let mut text = String::from("(set-logic QF_UF)\n(declare-sort L 0)\n");
     for lot in 1..=sheet.lots {
         text += &format!("(declare-const l{lot} L)\n");
     }
     for condition in &sheet.conditions {
-        let terms: Vec<String> = condition.iter().map(term).collect();
+        let terms: Vec<String> = condition.terms.iter().map(term).collect();
         text += &match terms.len() {
-            0 => "(assert false)\n".to_string(),
+            0 => "(assert true)\n".to_string(),
             1 => format!("(assert {})\n", terms[0]),
             _ => format!("(assert (or {}))\n", terms.join(" ")),
         };
@@ -71,4 +71,18 @@ pub fn solve(folder: &Path, job: &Job) -> Option<Solved> {
     let expected = [("met", "sat"), ("cannot", "unsat"), ("full", answer.as_str())];
     assert!(expected.contains(&(job.answer(), answer.as_str())), "{}: z3 says {answer}, the product {}", job.name, job.answer());
     Some(Solved { answer, seconds: Some((seconds - start_up).max(0.0)) })
+}
+
+#[cfg(test)]
+mod tests {
+    use super::*;
+    use crate::sheets::apart;
+
+    #[test]
+    fn a_withdrawn_condition_is_true() {
+        let mut sheet = Sheet::new(1);
+        sheet.withdrawn(2);
+        sheet.condition([apart(1, 1)]);
+        assert!(script(&sheet).ends_with("(assert true)\n(assert (not (= l1 l1)))\n(check-sat)\n"));
+    }
 }

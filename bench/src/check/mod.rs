@@ -14,7 +14,7 @@ trait Path {
     fn depth(&self) -> usize;
     /// A split goes on top, in its same branch.
     fn push(&mut self, split: Split);
-    /// Whether every term of a condition, which counts from 0, is false.
+    /// Whether a condition, which counts from 0, isn't withdrawn and has only false terms.
     fn refutes(&mut self, condition: usize) -> bool;
     /// The nearest split still in its same branch is turned to its apart branch; those above it are dropped.
     fn turn(&mut self) -> Option<Split>;

@@ -36,6 +36,9 @@ impl Path for Plain {
     }
 
     fn refutes(&mut self, condition: usize) -> bool {
+        if self.conditions[condition].is_empty() {
+            return false;
+        }
         let classes = self.classes();
         let apart = || self.splits.iter().filter(|(_, same)| !same).map(|(split, _)| (split.a, split.b));
         self.marks.stamp(&classes, apart(), true);

@@ -43,10 +43,11 @@ impl Path for Tuned {
     #[inline]
     fn refutes(&mut self, condition: usize) -> bool {
         let (begin, end) = (self.begins[condition], self.begins[condition + 1]);
-        self.terms[usize::from(begin)..usize::from(end)].iter().all(|term| {
+        let is_false = |term: &Term| {
             let (x, y) = (self.classes.of(term.a), self.classes.of(term.b));
             if term.same { x != y && self.classes.marked(x, y) } else { x == y }
-        })
+        };
+        begin < end && self.terms[usize::from(begin)..usize::from(end)].iter().all(is_false)
     }
 
     #[inline]

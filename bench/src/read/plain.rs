@@ -1,4 +1,4 @@
-//! A plain reader: the table's checks 1 to 7, one after the other.
+//! A plain reader: the table's checks 1 to 7 and 17, one after the other.
 use crate::records::{answered, refused};
 use crate::terms::number;
 use lihumbay::raw::Numbers;
@@ -10,8 +10,8 @@ struct Counts {
 }
 
 impl Counts {
-    fn record<'a>(&self, sheet: &'a [u8], record: usize) -> &'a [u8] {
-        &sheet[6 + 2 * self.conditions + 8 * (record - 1)..][..8]
+    fn record<'a>(&self, sheet: &'a [u8], record: usize) -> &'a [u8; 8] {
+        &sheet[6 + 2 * self.conditions..].as_chunks().0[record - 1]
     }
 
     fn head(&self, sheet: &[u8], condition: usize) -> usize {
@@ -36,7 +36,11 @@ fn counts(sheet: &[u8]) -> Result<Counts, Numbers> {
     Ok(counts)
 }
 
-fn well_formed(counts: &Counts, record: &[u8]) -> bool {
+fn vacant(record: &[u8; 8]) -> bool {
+    *record == [0; 8]
+}
+
+fn well_formed(counts: &Counts, record: &[u8; 8]) -> bool {
     let lots = 1..=counts.lots;
     (record[0] == 1 || record[0] == 2)
         && record[1] == 0
@@ -45,20 +49,24 @@ fn well_formed(counts: &Counts, record: &[u8]) -> bool {
         && number(record, 6) <= counts.records
 }
 
-/// Checks 6 and 7.
+/// Checks 17 and 6 at each record of a chain, and 7.
 fn chains(sheet: &[u8], counts: &Counts) -> Result<(), Numbers> {
     let mut reached = vec![false; counts.records];
     for c in 1..=counts.conditions {
         let mut at = counts.head(sheet, c);
         while at != 0 {
+            let record = counts.record(sheet, at);
+            if vacant(record) {
+                return Err(refused(17, at));
+            }
             if std::mem::replace(&mut reached[at - 1], true) {
                 return Err(refused(6, at));
             }
-            at = number(counts.record(sheet, at), 6);
+            at = number(record, 6);
         }
     }
-    match reached.iter().position(|&reached| !reached) {
-        Some(r) => Err(refused(7, r + 1)),
+    match (1..=counts.records).find(|&r| !reached[r - 1] && !vacant(counts.record(sheet, r))) {
+        Some(r) => Err(refused(7, r)),
         None => Ok(()),
     }
 }
@@ -68,7 +76,8 @@ fn check(sheet: &[u8]) -> Result<Counts, Numbers> {
     if let Some(c) = (1..=counts.conditions).find(|&c| counts.head(sheet, c) > counts.records) {
         return Err(refused(4, c));
     }
-    if let Some(r) = (1..=counts.records).find(|&r| !well_formed(&counts, counts.record(sheet, r))) {
+    let malformed = |record: &[u8; 8]| !vacant(record) && !well_formed(&counts, record);
+    if let Some(r) = (1..=counts.records).find(|&r| malformed(counts.record(sheet, r))) {
         return Err(refused(5, r));
     }
     chains(sheet, &counts)?;

@@ -1,6 +1,7 @@
-//! A tuned reader. A sheet whose records stand in the order of their chains, the common case, is accepted by one pass over the records, eight two-byte fields at a time
-//! without a branch, and one over the heads. Any other sheet is looked at by a second pass, which marks the records that a head or a next names. Whatever isn't
-//! accepted is read again by the plain reader, which knows which check refuses it.
+//! A tuned reader. A sheet whose records stand in the order of their chains, the common case, is accepted by one pass over the records, eight two-byte fields
+//! at a time without a branch, and one over the heads. Where records may be vacant, another pass over the records takes that one's place, a record at a time.
+//! Of a sheet whose records are in another order the chains are walked. Whatever isn't accepted is read again by the plain reader, which knows which check
+//! refuses it.
 use crate::read::plain;
 use crate::records::answered;
 use lihumbay::raw::Numbers;
@@ -14,11 +15,12 @@ fn next_of(record: &[u8; 8]) -> usize {
     number([record[6], record[7]])
 }
 
-/// What a pass over the records found: a field out of range, a next that isn't the following record, and how many chains end.
-#[derive(Default)]
+/// What a pass over the records found: a record that isn't well formed, a next that isn't the following record, how many records aren't vacant, and how many
+/// chains end.
 struct Fields {
     wrong: bool,
     scattered: bool,
+    live: usize,
     ends: usize,
 }
 
@@ -50,6 +52,8 @@ impl Gathered {
     }
 }
 
+/// The pass for sheets with a lot and without a vacant record: such a record is wrong here. Within its caller the compiler doesn't do eight fields at a time.
+#[inline(never)]
 fn fields(n: u16, records: &[[u8; 8]]) -> Fields {
     let (lot, k) = (n.wrapping_sub(1), records.len() as u16);
     let room = [1, lot, lot, k, 1, lot, lot, k];
@@ -65,16 +69,50 @@ fn fields(n: u16, records: &[[u8; 8]]) -> Fields {
     Fields {
         wrong: all.over != [0; 8],
         scattered: all.astray[3] | all.astray[7] != 0,
+        live: records.len(),
         ends: usize::from(all.zeros[3] + all.zeros[7]) - odd.len(),
     }
 }
 
-/// Of records that stand in the order of their chains: whether the heads name, rising, each record where a chain begins.
+/// The high bit of each of a record's four fields: sign with spare, two lots, next.
+const HIGH: u64 = 0x8000_8000_8000_8000;
+/// The high bits of both lots.
+const LOTS: u64 = 0x8000_8000_0000;
+
+/// The pass for sheets with vacant records. A record is one number, its fields side by side.
+///
+/// No field is above its most: taken from that with its high bit set it leaves the bit, and it has none itself. `given` then has the high bit of each field
+/// that isn't zero. A lot's is as that of the field before it, the sign or the first lot, and the next's isn't set without the second lot's: so a record that begins
+/// with zero is vacant. A next isn't astray where it is zero, or differs by zero from the following record and that one isn't vacant.
+fn fields_with_vacant(n: u64, records: &[[u8; 8]]) -> Fields {
+    let most = HIGH | 2 | n << 16 | n << 32 | (records.len() as u64) << 48;
+    let (mut fit, mut mixed, mut astray, mut counts, mut following, mut before) = (HIGH, 0, 0, 0, 2 << 48, 0);
+    for record in records {
+        let record = u64::from_le_bytes(*record);
+        let given = record.wrapping_add(!HIGH) & HIGH;
+        fit &= most.wrapping_sub(record) & !record;
+        mixed |= (given ^ given << 16) & (given | LOTS);
+        astray |= given & (record ^ following).wrapping_add(!HIGH) | before & !(given << 48);
+        counts += given >> 15;
+        following += 1 << 48;
+        before = given;
+    }
+    let (live, nexts) = (usize::from(counts as u16), (counts >> 48) as usize);
+    Fields { wrong: fit != HIGH || mixed >> 16 != 0, scattered: astray >> 63 != 0, live, ends: live.wrapping_sub(nexts) }
+}
+
+/// Of a record that is well formed or vacant.
+fn is_vacant(record: &[u8; 8]) -> bool {
+    record[0] == 0
+}
+
+/// Of records that stand in the order of their chains: whether the heads name, rising, each record where a chain begins. Each beginning has its end, so that it
+/// is enough to compare the numbers of both.
 fn heads_in_order(heads: &[[u8; 2]], records: &[[u8; 8]], ends: usize) -> bool {
     let (mut before, mut chains) = (0, 0);
     for head in heads.iter().map(|head| number(*head)).filter(|head| *head != 0) {
         let begins = head == 1 || records.get(head.wrapping_sub(2)).is_some_and(|record| next_of(record) == 0);
-        if head <= before || head > records.len() || !begins {
+        if head <= before || !begins || records.get(head - 1).is_none_or(is_vacant) {
             return false;
         }
         (before, chains) = (head, chains + 1);
@@ -82,42 +120,38 @@ fn heads_in_order(heads: &[[u8; 2]], records: &[[u8; 8]], ends: usize) -> bool {
     chains == ends
 }
 
-/// Of records that are well formed, in any order: as many names are given as there are records, each record is named, so each is named once and no chain comes to one
-/// twice; and the chains have them all, so that none lies on a ring.
-fn each_reached(heads: &[[u8; 2]], records: &[[u8; 8]]) -> bool {
-    let k = records.len();
-    let mut marks = [0u8; 1025];
-    let (mut names, mut reached) = (0, 0);
-    for name in heads.iter().map(|head| number(*head)).chain(records.iter().map(next_of)) {
-        names += usize::from(name != 0);
-        marks[name.min(1024)] = 1;
-    }
-    if names != k || !marks[1..=k].iter().all(|mark| *mark == 1) {
-        return false;
-    }
+/// Of records that are well formed or vacant, in any order: the chains have each that isn't vacant, and have it once.
+fn each_reached(heads: &[[u8; 2]], records: &[[u8; 8]], live: usize) -> bool {
+    let mut reached = [false; 1024];
+    let mut count = 0;
     for head in heads {
         let mut at = number(*head);
-        while let Some(record) = records.get(at.wrapping_sub(1)) {
-            reached += 1;
+        while at != 0 {
+            let Some(record) = records.get(at - 1) else { return false };
+            if std::mem::replace(&mut reached[(at - 1) & 1023], true) || is_vacant(record) {
+                return false;
+            }
+            count += 1;
             at = next_of(record);
         }
     }
-    reached == k
+    count == live
 }
 
 pub fn read(sheet: &[u8]) -> Numbers {
     let Some((counts, rest)) = sheet.split_first_chunk::<6>() else { return plain::read(sheet) };
     let [n, m, k] = [0, 2, 4].map(|i| number([counts[i], counts[i + 1]]));
-    // Without lots no record is well formed, and a lot's room would wrap round.
-    if n > 128 || m > 256 || k > 1024 || rest.len() != 2 * m + 8 * k || (n == 0 && k > 0) {
+    if n > 128 || m > 256 || k > 1024 || rest.len() != 2 * m + 8 * k {
         return plain::read(sheet);
     }
     let (heads, records) = rest.split_at(2 * m);
     let (heads, records) = (heads.as_chunks().0, records.as_chunks().0);
-    let fields = fields(n as u16, records);
-    let in_order = !fields.scattered && heads_in_order(heads, records, fields.ends);
-    let within = || heads.iter().all(|head| number(*head) <= k);
-    if !fields.wrong && (in_order || (within() && each_reached(heads, records))) {
+    // Where a condition is withdrawn, records are likely to be vacant; without lots all are.
+    let expected = n == 0 || heads.iter().fold(false, |any, head| any | (*head == [0; 2]));
+    let found = if expected { fields_with_vacant(n as u64, records) } else { fields(n as u16, records) };
+    let found = if found.wrong && !expected { fields_with_vacant(n as u64, records) } else { found };
+    let in_order = !found.scattered && heads_in_order(heads, records, found.ends);
+    if !found.wrong && (in_order || each_reached(heads, records, found.live)) {
         return answered(n as u32, m as u32, k as u32);
     }
     plain::read(sheet)

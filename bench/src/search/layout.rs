@@ -26,7 +26,8 @@ pub struct Layout {
     shift: u32,
     /// For each condition its "apart" terms over two lots.
     pub left: [u16; 256],
-    /// The conditions that a "same" term over one lot passes over, and those with no "apart" term over two lots.
+    /// The conditions that a "same" term over one lot passes over, and those with a term, but no "apart" term over two lots: one with no term is withdrawn, and
+    /// is never taken.
     pub passed: Conditions,
     pub ready: Conditions,
 }
@@ -56,11 +57,13 @@ impl Layout {
             ready: [0; 4],
         };
         for c in 0..conditions {
+            let mut withdrawn = true;
             for term in terms::chain(sheet, c) {
                 layout.add(c as u8, term);
+                withdrawn = false;
             }
             layout.begins[c + 1] = layout.sames.len() as u16;
-            if layout.left[c] == 0 {
+            if layout.left[c] == 0 && !withdrawn {
                 insert(&mut layout.ready, c as u8);
             }
         }

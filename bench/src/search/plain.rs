@@ -1,5 +1,5 @@
-//! The search of document 01 word for word: each node looks at every condition from the first on, and gives each term its value by the node's classes and marks.
-//! It doesn't check the sheet. There are two, which differ in their marks alone.
+//! The search of document 01 word for word: each node looks at every condition from the first on, passes over the withdrawn ones, and gives each term its value
+//! by the node's classes and marks. It doesn't check the sheet. There are two, which differ in their marks alone.
 use crate::records;
 use crate::search::node_marks::{NodeMarks, Stamped, Undone};
 use crate::search::{End, answer};
@@ -54,8 +54,11 @@ impl<Marks: NodeMarks> Search<'_, Marks> {
         }
     }
 
-    /// Whether a condition is taken; if so, its first open term.
+    /// Whether a condition is taken; if so, its first open term. One with no term is withdrawn.
     fn first_open(&self, classes: &Classes, terms: &[Term]) -> Option<Option<Term>> {
+        if terms.is_empty() {
+            return None;
+        }
         let mut open = None;
         for &term in terms {
             match self.value(classes, term) {
