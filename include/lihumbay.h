@@ -11,7 +11,7 @@
    Threads. A call reads and writes only what it is lent, and its own stack: any number of calls may run at once as long as none writes what another uses. No
    call allocates, blocks, or touches a global.
 
-   Stack. A search needs up to 0.9 MB, where a path has 1,024 splits; give its thread 1 MB. The others need less than 48 KB. */
+   Stack. A search needs up to 0.9 MB, 0.8 KB for each split on a path; give its thread 1 MB. The others need less than 48 KB. */
 #ifndef LIHUMBAY_H
 #define LIHUMBAY_H
 
