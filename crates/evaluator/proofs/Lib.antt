@@ -1,3 +1,4 @@
 mod Lots
+mod FirstTrue
 mod Scanning
 mod Entry

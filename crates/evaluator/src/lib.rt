@@ -39,21 +39,23 @@ fn is_true(grouping: &[u8], t: Term) -> bool
     if t.sign == SAME { same } else { !same }
 }
 
-// Whether the condition whose chain begins at a record is met. The loop leaves at the first true term; every term that it has passed is false. Where none is
-// true, a condition with no term is met still: it is withdrawn.
+// Whether the condition whose chain begins at a record is met. The loop ends at the first true term; every term that it has passed is false. A condition with
+// no term is met: it is withdrawn.
 fn is_met(sheet: &[u8], m: u16, grouping: &[u8], head: Record) -> bool
     requires { ⌜ Evaluable (now sheet) (now grouping) m × OnChain (now sheet) (head .0) ⌝ }
     ensures { λ r. ⌜ r ≡ meetsCondition (numberIn (now (grouping .entry))) (termsFrom (now (sheet .entry)) (head .0)) ⌝ }
 {
     let mut at = head;
+    let mut met = head.0 == 0;
     while at.0 != 0 {
         let t = sheet::chain::term_at(sheet, at, m);
-        if is_true(grouping, t) {
-            return true;
+        met = is_true(grouping, t);
+        if met {
+            break;
         }
         at = t.next;
     }
-    head.0 == 0
+    met
 }
 
 // The lowest condition that is not met.
