@@ -4,7 +4,7 @@ use crate::random::Random;
 use crate::records::{self, refused};
 use crate::repack::{self, Repack};
 use crate::sheets::{Condition, MOST_BYTES, Sheet};
-use crate::{families, lists, read, terms};
+use crate::{evaluations, families, lists, read, terms};
 use std::ops::RangeInclusive;
 
 /// Changed lists are tried where a list is shorter than this.
@@ -26,23 +26,23 @@ fn agree(job: &Job, what: &str) {
 
 /// The same job with a list that is changed.
 fn with_list(job: &mut Job, list: Vec<u8>, what: &str) {
-    let whole = std::mem::replace(&mut job.list, list);
+    let whole = std::mem::replace(&mut job.given, list);
     agree(job, what);
-    job.list = whole;
+    job.given = whole;
 }
 
 /// About 200 bytes of the list, each changed by itself, and the list without its last record.
 fn changed_lists(job: &mut Job) {
-    for at in (0..job.list.len()).step_by(job.list.len() / 200 + 1) {
-        let mut list = job.list.clone();
+    for at in (0..job.given.len()).step_by(job.given.len() / 200 + 1) {
+        let mut list = job.given.clone();
         list[at] ^= 1;
         with_list(job, list, ", a byte changed");
     }
-    with_list(job, job.list[..job.list.len() - 8].to_vec(), ", the last record missing");
+    with_list(job, job.given[..job.given.len() - 8].to_vec(), ", the last record missing");
 }
 
 /// Each bit of a sheet changed by itself, and the sheet cut at each length.
-fn each_change(sheet: &[u8], same: impl Fn(&[u8], &str, usize)) {
+pub fn each_change(sheet: &[u8], same: impl Fn(&[u8], &str, usize)) {
     let mut bytes = sheet.to_vec();
     for at in 0..bytes.len() {
         same(&sheet[..at], "cut at", at);
@@ -122,7 +122,7 @@ fn outputs(job: &Job, lengths: RangeInclusive<usize>) {
 fn job_of(service: Service, name: String, sheet: &Sheet, shuffled: Option<u64>) -> Job {
     let bytes = shuffled.map_or_else(|| sheet.bytes(), |seed| sheet.bytes_shuffled(seed));
     let known = packed_length(sheet);
-    Job { service, key: String::new(), name, family: "compared", sheet: sheet.clone(), bytes, list: Vec::new(), units: 1, known }
+    Job { service, key: String::new(), name, family: "compared", sheet: sheet.clone(), bytes, given: Vec::new(), units: 1, known }
 }
 
 /// The refutation that the product's search writes for a sheet, if it isn't long; and with its first ground naming a withdrawn condition instead, each in turn,
@@ -133,14 +133,14 @@ fn refutation(search: &Job) {
     if (answer.check, answer.first) != (0, 2) || 8 * answer.second as usize >= SHORT_LIST {
         return;
     }
-    let list = buffers.store[..8 * answer.second as usize].to_vec();
-    let ground = list.chunks(8).position(|record| record[0] == 2).expect("a refutation has a ground");
+    let given = buffers.store[..8 * answer.second as usize].to_vec();
+    let ground = given.chunks(8).position(|record| record[0] == 2).expect("a refutation has a ground");
     let bytes = search.bytes.clone();
-    let mut job = Job { list, bytes, ..job_of(Service::Check, search.name.clone(), &search.sheet, None) };
+    let mut job = Job { given, bytes, ..job_of(Service::Check, search.name.clone(), &search.sheet, None) };
     agree(&job, ", its own refutation");
     let withdrawn = |c: &usize| search.sheet.conditions[*c].terms.is_empty();
     for c in (0..search.sheet.conditions.len()).filter(withdrawn) {
-        job.list[8 * ground..8 * ground + 8].copy_from_slice(&records::ground(c + 1));
+        job.given[8 * ground..8 * ground + 8].copy_from_slice(&records::ground(c + 1));
         agree(&job, ", a ground of a withdrawn condition");
         let product = job.run(0, &mut buffers);
         assert!(product == refused(12, ground + 1), "{}: {product:?} to a ground of a withdrawn condition", job.name);
@@ -154,6 +154,7 @@ fn sheet_agrees(name: String, sheet: &Sheet, shuffled: Option<u64>) {
     let search = job(Service::Search);
     agree(&search, "");
     refutation(&search);
+    evaluations::of_search(&search, shuffled.unwrap_or(0));
     let (repack, packed) = (job(Service::Repack), sheet.packed().len());
     outputs(&repack, packed - 1..=packed + 1);
     outputs(&repack, repack.bytes.len() - 1..=repack.bytes.len() + 1);
@@ -192,7 +193,10 @@ pub fn withdrawn_sheets() {
             let read = job_of(Service::Read, name.clone(), &sheet, shuffled);
             changed_readings(&read);
             changed_chains(&read, i as u64);
-            changed_repackings(&job_of(Service::Repack, name, &sheet, shuffled));
+            changed_repackings(&job_of(Service::Repack, name.clone(), &sheet, shuffled));
+            for given in evaluations::groupings(sheet.lots, i as u64) {
+                evaluations::changed(&Job { given, ..job_of(Service::Evaluate, name.clone(), &sheet, shuffled) });
+            }
         }
     }
 }
@@ -203,13 +207,14 @@ pub fn compare(job: &mut Job) {
     let product = job.run(0, &mut Buffers::new());
     assert!(product == job.known, "{}: {product:?}, and not {:?}", job.name, job.known);
     if job.family == OWN {
-        assert!(job.list == lists::own(lihumbay::raw::search, &job.bytes), "{}: the product's search writes another list", job.name);
+        assert!(job.given == lists::own(lihumbay::raw::search, &job.bytes), "{}: the product's search writes another list", job.name);
     }
     match job.service {
         Service::Search => {}
-        Service::Check if job.list.len() < SHORT_LIST => changed_lists(job),
+        Service::Check if job.given.len() < SHORT_LIST => changed_lists(job),
         Service::Check => {}
         Service::Read => changed_readings(job),
+        Service::Evaluate => evaluations::changed(job),
         Service::Repack => {
             outputs(job, 0..=job.bytes.len() + 1);
             changed_repackings(job);

@@ -1,10 +1,11 @@
 //! What is measured: a service on one input, done by each of its contenders.
 use crate::cases::{self, Answer, Case};
 use crate::families;
+use crate::first_true::{self, Shape};
 use crate::lists::Joins;
 use crate::records::{MOST, answered, refused};
 use crate::sheets::{MOST_BYTES, Sheet};
-use crate::{check, lists, read, repack, search, slow};
+use crate::{check, evaluate, lists, read, repack, search, slow};
 use lihumbay::raw::Numbers;
 
 #[derive(Clone, Copy, PartialEq, Eq)]
@@ -12,17 +13,24 @@ pub enum Service {
     Search,
     Check,
     Read,
+    Evaluate,
     Repack,
 }
 
 impl Service {
-    pub const ALL: [Service; 4] = [Service::Search, Service::Check, Service::Read, Service::Repack];
+    pub const ALL: [Service; 5] = [Service::Search, Service::Check, Service::Read, Service::Evaluate, Service::Repack];
+
+    /// The service of a word that a command was given.
+    pub fn named(word: &str) -> Service {
+        Service::ALL.into_iter().find(|known| known.word() == word).expect("a service: search, check, read, evaluate or repack")
+    }
 
     pub fn word(self) -> &'static str {
         match self {
             Service::Search => "search",
             Service::Check => "check",
             Service::Read => "read",
+            Service::Evaluate => "evaluate",
             Service::Repack => "repack",
         }
     }
@@ -33,6 +41,7 @@ impl Service {
             Service::Search => "node",
             Service::Check => "record",
             Service::Read | Service::Repack => "term record",
+            Service::Evaluate => "condition",
         }
     }
 
@@ -41,6 +50,7 @@ impl Service {
             Service::Search => search::ALL.map(|(name, _)| name).into(),
             Service::Check => check::ALL.map(|(name, _)| name).into(),
             Service::Read => read::ALL.map(|(name, _)| name).into(),
+            Service::Evaluate => evaluate::ALL.map(|(name, _)| name).into(),
             Service::Repack => repack::ALL.map(|(name, _)| name).into(),
         }
     }
@@ -53,9 +63,9 @@ pub struct Job {
     pub family: &'static str,
     pub sheet: Sheet,
     pub bytes: Vec<u8>,
-    /// The records that the checker walks; empty for the other services.
-    pub list: Vec<u8>,
-    /// How many nodes, records of a list, or term records.
+    /// What a call is given beside the sheet: the list that the checker walks, the evaluator's grouping; empty for the other services.
+    pub given: Vec<u8>,
+    /// How many nodes, records of a list, term records, or conditions that are looked at.
     pub units: usize,
     pub known: Numbers,
 }
@@ -82,8 +92,9 @@ impl Job {
     pub fn run(&self, contender: usize, buffers: &mut Buffers) -> Numbers {
         match self.service {
             Service::Search => search::ALL[contender].1(&self.bytes, &mut buffers.grouping, &mut buffers.store),
-            Service::Check => check::ALL[contender].1(&self.bytes, &self.list),
+            Service::Check => check::ALL[contender].1(&self.bytes, &self.given),
             Service::Read => read::ALL[contender].1(&self.bytes),
+            Service::Evaluate => evaluate::ALL[contender].1(&self.bytes, &self.given),
             Service::Repack => repack::ALL[contender].1(&self.bytes, &mut buffers.out),
         }
     }
@@ -95,6 +106,8 @@ impl Job {
             (Service::Search, _, _) => "full",
             (Service::Check, _, _) => "passes",
             (Service::Read, _, _) => "accepted",
+            (Service::Evaluate, _, 0) => "all met",
+            (Service::Evaluate, _, _) => "unmet",
             (Service::Repack, _, _) => "packed",
         }
     }
@@ -108,14 +121,14 @@ fn search_job(case: Case) -> Job {
     };
     let (bytes, units) = (case.sheet.bytes(), case.nodes.min(MOST));
     let Case { key, name, family, sheet, .. } = case;
-    Job { service: Service::Search, key, name, family, sheet, bytes, list: Vec::new(), units, known }
+    Job { service: Service::Search, key, name, family, sheet, bytes, given: Vec::new(), units, known }
 }
 
 fn check_job(key: String, name: String, family: &'static str, sheet: Sheet, list: impl Fn(&[u8]) -> Vec<u8>) -> Job {
     let bytes = sheet.bytes();
-    let list = list(&bytes);
-    let units = list.len() / 8;
-    Job { service: Service::Check, key, name, family, sheet, bytes, list, units, known: answered(0, 0, 0) }
+    let given = list(&bytes);
+    let units = given.len() / 8;
+    Job { service: Service::Check, key, name, family, sheet, bytes, given, units, known: answered(0, 0, 0) }
 }
 
 /// The family of the search's own refutations. The tuned search makes them, since a set-up counts as many calls; they are compared with what the product writes.
@@ -185,7 +198,7 @@ fn sheet_jobs(service: Service, known: fn(&Sheet) -> Numbers) -> Vec<Job> {
     let withdrawn = families::half_withdrawn(families::random(1, 128, 4));
     let job = |key: &str, name: &str, sheet: &Sheet, bytes: Vec<u8>| {
         let (known, units) = (known(sheet), sheet.records());
-        Job { service, key: key.into(), name: name.into(), family: "sheet", sheet: sheet.clone(), bytes, list: Vec::new(), units, known }
+        Job { service, key: key.into(), name: name.into(), family: "sheet", sheet: sheet.clone(), bytes, given: Vec::new(), units, known }
     };
     vec![
         job("largest", "256 conditions of 4 terms, records in order", &largest, largest.bytes()),
@@ -198,12 +211,29 @@ fn sheet_jobs(service: Service, known: fn(&Sheet) -> Numbers) -> Vec<Job> {
     ]
 }
 
+/// The evaluator stops at the first condition that isn't met: where no term is true, at condition 1.
+fn evaluate_job(shape: Shape) -> Job {
+    let (sheet, met) = (shape.sheet(), shape.place.is_some());
+    Job {
+        service: Service::Evaluate,
+        key: shape.key(),
+        name: shape.name(),
+        family: "first true",
+        bytes: sheet.bytes(),
+        sheet,
+        given: first_true::grouping(),
+        units: if met { shape.conditions } else { 1 },
+        known: answered(if met { 0 } else { 1 }, 0, 0),
+    }
+}
+
 /// The jobs of a service whose key is wanted.
 pub fn of(service: Service, wanted: &dyn Fn(&str) -> bool) -> Vec<Job> {
     let jobs = match service {
         Service::Search => cases::all().into_iter().filter(|case| wanted(&case.key)).map(search_job).collect(),
         Service::Check => check_jobs(wanted),
         Service::Read => sheet_jobs(service, counts),
+        Service::Evaluate => first_true::rows().into_iter().map(evaluate_job).collect(),
         Service::Repack => sheet_jobs(service, packed_length),
     };
     jobs.into_iter().filter(|job| wanted(&job.key)).collect()
@@ -216,8 +246,17 @@ pub fn sizes() -> Vec<(usize, usize, [Job; 2])> {
     sizes().zip(sizes()).map(jobs).collect()
 }
 
-/// The job of a key, those of the sizes among them.
+/// For the cost against the place of the first true term: the evaluation of a sheet, and its reading.
+pub fn of_shape(shape: Shape) -> [Job; 2] {
+    let evaluation = evaluate_job(shape);
+    let (units, known) = (evaluation.sheet.records(), counts(&evaluation.sheet));
+    [evaluate_job(shape), Job { service: Service::Read, given: Vec::new(), units, known, ..evaluation }]
+}
+
+/// The job of a key, those of the places and of the sizes among them.
 pub fn one(service: Service, key: &str) -> Option<Job> {
-    let of_sizes = || sizes().into_iter().flat_map(|(_, _, jobs)| jobs).find(|job| job.service == service && job.key == key);
-    of(service, &|known| known == key).into_iter().next().or_else(of_sizes)
+    let is_it = |job: &Job| job.service == service && job.key == key;
+    let of_places = || first_true::places().into_iter().flat_map(of_shape).find(is_it);
+    let of_sizes = || sizes().into_iter().flat_map(|(_, _, jobs)| jobs).find(is_it);
+    of(service, &|known| known == key).into_iter().next().or_else(of_places).or_else(of_sizes)
 }

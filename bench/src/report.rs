@@ -2,7 +2,7 @@
 use crate::jobs::{self, Buffers, Job, Service};
 use crate::rounds::{self, Plan};
 use crate::rows::{self, Row};
-use crate::{compare, instructions, plots, sizes, stack, tables, z3};
+use crate::{compare, instructions, places, plots, sizes, stack, tables, z3};
 use std::fs;
 use std::hint::black_box;
 use std::path::{Path, PathBuf};
@@ -54,7 +54,7 @@ fn timed(plan: Plan, job: &Job) -> Vec<rounds::Taken> {
 
 /// Nanoseconds a unit of one input by each contender, and the product's time divided by the contender's.
 pub fn time_row(service: &str, key: &str) {
-    let service = Service::ALL.into_iter().find(|known| known.word() == service).expect("a service: search, check, read or repack");
+    let service = Service::named(service);
     let job = jobs::one(service, key).expect("the key of a job");
     let taken = timed(Plan { rounds: 9, batch: 0.05 }, &job);
     for (name, taken) in service.contenders().into_iter().zip(taken) {
@@ -149,6 +149,7 @@ pub fn measure(plan: Plan) {
     save("machine.txt", &format!("{} rounds of {} s; {machine}", plan.rounds, plan.batch));
     save("times.tsv", &rows::write(&rows));
     save("sizes.tsv", &sizes::measure());
+    save("places.tsv", &places::measure());
     save("stack.tsv", &measure_stack());
     save("z3.tsv", &measure_z3(&rows));
     write();
@@ -157,6 +158,12 @@ pub fn measure(plan: Plan) {
 /// The cost against sizes alone: it is counted and not timed, so that it can be had by itself.
 pub fn measure_sizes() {
     save("sizes.tsv", &sizes::measure());
+    write();
+}
+
+/// The same for the cost against the place of the first true term.
+pub fn measure_places() {
+    save("places.tsv", &places::measure());
     write();
 }
 
@@ -177,6 +184,9 @@ pub fn write() {
         ("sizes", tables::plain(&load("sizes.tsv"))),
         ("read times", tables::times(&rows, "read", "Term record")),
         ("read instructions", tables::instructions(&rows, "read")),
+        ("evaluate times", tables::times(&rows, "evaluate", "Condition")),
+        ("evaluate instructions", tables::instructions(&rows, "evaluate")),
+        ("places", tables::plain(&load("places.tsv"))),
         ("repack times", tables::times(&rows, "repack", "Term record")),
         ("repack instructions", tables::instructions(&rows, "repack")),
         ("z3", tables::plain(&load("z3.tsv"))),

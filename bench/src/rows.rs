@@ -13,7 +13,7 @@ pub struct Row {
     pub longest: usize,
     pub units: usize,
     pub contender: String,
-    /// Nanoseconds a unit: a node, a record of a list, or a term record.
+    /// Nanoseconds a unit: a node, a record of a list, a term record, or a condition.
     pub time: Spread,
     /// The product's time divided by this contender's, round by round.
     pub ratio: Spread,

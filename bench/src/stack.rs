@@ -1,8 +1,9 @@
-//! How much stack a search takes on the longest path that it can have, 1,023 splits, a check on the longest that a list can have, 1,024, and a repacking on the
-//! longest chain: the call runs on a painted stack of 8 MB, and what was painted over is counted.
+//! How much stack a search takes on the longest path that it can have, 1,023 splits, a check on the longest that a list can have, 1,024, and an evaluation and
+//! a repacking on the longest chain: the call runs on a painted stack of 8 MB, and what was painted over is counted.
+use crate::first_true::{self, Shape};
 use crate::jobs::{Buffers, packed_length};
 use crate::records::answered;
-use crate::{check, families, lists, repack, search};
+use crate::{check, evaluate, families, lists, repack, search};
 use std::alloc::{Layout, alloc, dealloc};
 use std::ffi::c_void;
 use std::hint::black_box;
@@ -51,12 +52,14 @@ fn used(call: &mut dyn FnMut()) -> usize {
     }
 }
 
-/// The stack of each search, each checker and each repacker, by name.
+/// The stack of each search, checker, evaluator and repacker, by name.
 pub fn all() -> Vec<(String, usize)> {
     let thread = used(&mut || {});
     let (sheet, list) = (families::long_condition(1023).bytes(), lists::deep(127));
     let chain = families::longest_chain();
     let (mixed, packed) = (chain.bytes_shuffled(1), packed_length(&chain));
+    let last_true = Shape { conditions: 1, terms: 1024, place: Some(1024) }.sheet().bytes_shuffled(1);
+    let grouping = first_true::grouping();
     let mut rows = Vec::new();
     for (name, search) in search::ALL {
         let mut buffers = Buffers::new();
@@ -65,6 +68,10 @@ pub fn all() -> Vec<(String, usize)> {
     }
     for (name, check) in check::ALL {
         rows.push((format!("check, {name}"), used(&mut || assert!(check(&sheet, &list).check == 0)) - thread));
+    }
+    for (name, evaluate) in evaluate::ALL {
+        let bytes = used(&mut || assert!(evaluate(&last_true, &grouping) == answered(0, 0, 0)));
+        rows.push((format!("evaluate, {name}"), bytes - thread));
     }
     for (name, repack) in repack::ALL {
         let mut out = Buffers::new().out;
