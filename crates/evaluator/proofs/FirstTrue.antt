@@ -36,15 +36,15 @@ unfolding beforeFirstTrue
 here-true f t ts e = rw e
 
 module _ {f : ℕ → ℕ} {s : List ℕ} {head at : ℕ} (l : EveryTermPassedIsFalse f s head at) where
-  passed-and-left : beforeFirstTrue f (termsFrom s head) ≡ length (l .passed) + beforeFirstTrue f (termsFrom s at)
-  passed-and-left = ap (beforeFirstTrue f) (l .place) ∙ past-false f (l .passed) (termsFrom s at) (l .falses)
-
   -- A condition with a term where the loop stands is not withdrawn.
   pub not-withdrawn : Accepted s → 1 ≤ at → eqb head 0 ≡ false
   not-withdrawn ok low =
       let whole = ap length (l .place) ∙ length-append (l .passed) (termsFrom s at) in
       let here = ap length (terms-step s ok at low (l .on .within)) in
       ne-eqb head 0 (λ e. omega (arith, whole, here, ap (λ (r : ℕ). length (termsFrom s r)) e, ap length (terms-end s)))
+
+  passed-and-left : beforeFirstTrue f (termsFrom s head) ≡ length (l .passed) + beforeFirstTrue f (termsFrom s at)
+  passed-and-left = ap (beforeFirstTrue f) (l .place) ∙ past-false f (l .passed) (termsFrom s at) (l .falses)
 
   -- No more terms are passed than stand before the first true one;
   pub no-further : length (l .passed) ≤ beforeFirstTrue f (termsFrom s head)
