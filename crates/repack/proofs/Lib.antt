@@ -3,5 +3,4 @@ pub mod Repacked
 pub mod Answering
 mod Terms
 mod Counts
-mod Packing
 mod Entry

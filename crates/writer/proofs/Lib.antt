@@ -2,3 +2,4 @@ mod Stores
 pub mod Rooms
 pub mod Whole
 mod Adding
+pub mod Packing
