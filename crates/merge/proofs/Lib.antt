@@ -1,0 +1,13 @@
+pub mod Equal
+pub mod Left
+pub mod Merged
+mod Fields
+mod Comparing
+mod Digesting
+mod Entries
+mod Seeking
+mod Staying
+mod Gathering
+pub mod Answering
+mod Counts
+pub mod Entry

@@ -1,0 +1,132 @@
+-- The sheet that a merge writes (document 02, job 4), for every rule of which conditions may be left out.
+use Prim.Native.Nat.{ℕ, max, _+_, _≤_, _<_}
+use mathlib.Core.Bool.{Bool, true}
+use mathlib.Core.List.{List, [], _++_, append-nil, flatten, Sublistᴰ}
+use mathlib.Core.Logic.{_↔_, _≢_}
+use mathlib.Core.Path.{_≡_, ap₂, _∙_}
+use native.Mathlib.Nat.{max-le, le-max-left, le-max-right}
+use native.Mathlib.Omega.{arith}
+use lib.ListN.{length, getD}
+use Rattle.buffers.specs.Lists.{All}
+use Rattle.buffers.proofs.Lists.{all-map, all-both, all-first, all-second}
+use Rattle.sheet.specs.Format.{mostConditions, mostRecords, lotCount}
+use Rattle.sheet.specs.Checks.{Accepted}
+use Rattle.sheet.specs.Conditions.{Term, TermIn, conditions}
+use Rattle.canonical.specs.Canonical.{canonical, Within}
+use Rattle.canonical.proofs.Limits.{accepted-within}
+use Rattle.canonical.proofs.Canonical.{canonical-length, canonical-lots, canonical-accepted, canonical-conditions}
+use Rattle.equality.specs.Meaning.{MeetsCondition, MeetsAll, Meets}
+use Rattle.repack.specs.Repack.{repacked}
+use Rattle.merge.specs.Repeats.{withoutRepeats, anyCondition}
+use Rattle.merge.specs.Merge.{mergedLots, mergedConditions, merged, mergedLength}
+use Rattle.merge.proofs.Left.{left-append, left-part, left-few, left-terms, left-all, all-left, left-unrepeated, unrepeated-at, left-every, left-none}
+
+-- Lots of fewer are lots of more.
+more-lots : (n m : ℕ) → n ≤ m → (tss : List (List Term)) → All (All (TermIn n)) tss → All (All (TermIn m)) tss
+more-lots n m h = all-map (all-map (λ t within. (record { low = within .0 .low; high = omega (arith, within .0 .high) }, record { low = within .1 .low; high = omega (arith, within .1 .high) })))
+
+module _ (mayLeaveOut : List Term → Bool) (s t : List ℕ) where
+  abbrev result : List (List Term)
+  result = mergedConditions mayLeaveOut s t
+
+  -- ---- its conditions
+
+  -- Those of the first that stay, and then those of the second that stay behind them:
+  abbrev pub ofFirst : List (List Term)
+  ofFirst = withoutRepeats mayLeaveOut [] (conditions s)
+
+  abbrev pub ofSecond : List (List Term)
+  ofSecond = withoutRepeats mayLeaveOut ofFirst (conditions t)
+
+  pub merged-halves : result ≡ ofFirst ++ ofSecond
+  unfolding mergedConditions
+  merged-halves = left-append mayLeaveOut [] (conditions s) (conditions t)
+
+  -- the order within each sheet is kept,
+  pub order-first : Sublistᴰ ofFirst (conditions s)
+  order-first = left-part mayLeaveOut [] (conditions s)
+
+  pub order-second : Sublistᴰ ofSecond (conditions t)
+  order-second = left-part mayLeaveOut ofFirst (conditions t)
+
+  -- and no two conditions that may be left out are equal.
+  pub merged-unequal : (i j : ℕ) → i < j → j < length result → mayLeaveOut (getD result i []) ≡ true → getD result i [] ≢ getD result j []
+  unfolding mergedConditions
+  merged-unequal = unrepeated-at mayLeaveOut result (left-unrepeated mayLeaveOut [] (conditions s ++ conditions t))
+
+  -- ---- what it says
+
+  -- What holds of each condition of the result holds of each of the two sheets, and conversely;
+  module _ (P : List Term → Type 0) where
+    pub merged-each : All P result ↔ All P (conditions s) × All P (conditions t)
+    unfolding mergedConditions
+    merged-each = (
+      (λ all. let both = all-left mayLeaveOut P [] (conditions s ++ conditions t) tt all in (all-first P (conditions s) (conditions t) both, all-second P (conditions s) (conditions t) both)),
+      (λ h. left-all mayLeaveOut P [] (conditions s ++ conditions t) (all-both P (conditions s) (conditions t) (h .0) (h .1))),
+    )
+
+  -- so it is met by those who meet both, with values of any type.
+  pub merged-meets-all : {A : Type 0} (f : ℕ → A) → (MeetsAll f result ↔ Meets f s × Meets f t)
+  merged-meets-all f = merged-each (MeetsCondition f)
+
+  -- ---- its bytes
+
+  pub merged-length : length (merged mayLeaveOut s t) ≡ mergedLength mayLeaveOut s t
+  merged-length = canonical-length (mergedLots s t) result
+
+  -- The result of accepted sheets has only lots of its own. Where 18 doesn't refuse it,
+  module _ (ok : Accepted s) (ok′ : Accepted t) (few : length result ≤ mostConditions) (short : length (flatten result) ≤ mostRecords) where
+    within : Within (mergedLots s t) result
+    within =
+        let first = accepted-within s ok in
+        let second = accepted-within t ok′ in
+        record {
+          lots = max-le (first .lots) (second .lots);
+          conditions = few;
+          records = short;
+          terms = merged-each (All (TermIn (mergedLots s t))) .1 (
+            more-lots (lotCount s) (mergedLots s t) (le-max-left (lotCount s) (lotCount t)) (conditions s) (first .terms),
+            more-lots (lotCount t) (mergedLots s t) (le-max-right (lotCount s) (lotCount t)) (conditions t) (second .terms),
+          );
+        }
+
+    -- it is accepted,
+    pub merged-accepted : Accepted (merged mayLeaveOut s t)
+    merged-accepted = canonical-accepted (mergedLots s t) result within
+
+    -- has the larger number of lots,
+    pub merged-lots : lotCount (merged mayLeaveOut s t) ≡ max (lotCount s) (lotCount t)
+    merged-lots = canonical-lots (mergedLots s t) result within
+
+    -- and the conditions of the result;
+    pub merged-conditions : conditions (merged mayLeaveOut s t) ≡ result
+    merged-conditions = canonical-conditions (mergedLots s t) result within
+
+    -- is packed,
+    pub merged-packed : repacked (merged mayLeaveOut s t) ≡ merged mayLeaveOut s t
+    merged-packed = ap₂ canonical merged-lots merged-conditions
+
+    -- and is met exactly by those who meet both sheets, with values of any type.
+    pub merged-meets : {A : Type 0} (f : ℕ → A) → (Meets f (merged mayLeaveOut s t) ↔ Meets f s × Meets f t)
+    merged-meets f = rw merged-conditions (merged-meets-all f)
+
+-- ---- a sheet with itself, where any condition may be left out
+
+-- It has its conditions without its repeats,
+pub itself-conditions : (s : List ℕ) → mergedConditions anyCondition s s ≡ withoutRepeats anyCondition [] (conditions s)
+itself-conditions s =
+    merged-halves anyCondition s s
+    ∙ rw (left-none (withoutRepeats anyCondition [] (conditions s)) (conditions s) (left-every (conditions s))) (append-nil _)
+
+-- so it is its packed form without these.
+pub merged-itself : (s : List ℕ) → merged anyCondition s s ≡ canonical (lotCount s) (withoutRepeats anyCondition [] (conditions s))
+merged-itself s = ap₂ canonical (omega arith) (itself-conditions s)
+
+-- It is never refused by 18.
+pub itself-within : (s : List ℕ) → Accepted s → (length (mergedConditions anyCondition s s) ≤ mostConditions) × (length (flatten (mergedConditions anyCondition s s)) ≤ mostRecords)
+itself-within s ok =
+    let own = accepted-within s ok in
+    rw (itself-conditions s) (
+      omega (arith, left-few anyCondition [] (conditions s), own .conditions),
+      omega (arith, left-terms anyCondition [] (conditions s), own .records),
+    )

@@ -1,0 +1,140 @@
+-- Merges by computation: the answer, the sheet that it names, and every byte of the output.
+use Prim.Native.Nat.{ℕ}
+use mathlib.Core.List.{List, [], _∷_, _++_, flatten}
+use mathlib.Core.Path.{_≡_, refl}
+use lib.ListN.{replicate}
+use Rattle.buffers.specs.Bytes.{number, twoBytes}
+use Rattle.sheet.specs.Format.{headAt, signAt, spareAt, firstLotAt, secondLotAt, nextAt, zeroBytes, vacant}
+use Rattle.sheet.specs.Checks.{firstRefusal, lowestRefusal, check1, check2, check3, check4, wellFormed, check5, member, walkChain, walkChains, walked, check17And6, check7, sheetChecks, sheetVerdict}
+use Rattle.sheet.specs.Conditions.{chain, recordsFrom, termsFrom, countUp, conditions}
+use Rattle.sheet.specs.Answers.{Answer, refused, answered}
+use Rattle.canonical.specs.Canonical.{termRecord, chainRecords, sheetRecords, headsFrom, canonical}
+use Rattle.repack.specs.Examples.{shuffledC, sheetC, vacantOnly, empty, short, unreached, room}
+use Rattle.merge.specs.Repeats.{equalTerms, equalConditions, repeats, withoutRepeats, anyCondition}
+use Rattle.merge.specs.Merge.{whichRefused, mergedConditions, check18, check19, mergeVerdict, mergeAnswer, mergeOut}
+
+-- Document 01's sheet C has "same 1 2 or same 1 3" and "apart 1 2". This one has: "apart 1 2"; "same 1 3 or same 1 2"; "same 2 1"; "same 4 5".
+abbrev pub sheetF : List ℕ
+sheetF =
+    5 ∷ 0 ∷ 4 ∷ 0 ∷ 5 ∷ 0 ∷
+    1 ∷ 0 ∷ 2 ∷ 0 ∷ 4 ∷ 0 ∷ 5 ∷ 0 ∷
+    2 ∷ 0 ∷ 1 ∷ 0 ∷ 2 ∷ 0 ∷ 0 ∷ 0 ∷
+    1 ∷ 0 ∷ 1 ∷ 0 ∷ 3 ∷ 0 ∷ 3 ∷ 0 ∷
+    1 ∷ 0 ∷ 1 ∷ 0 ∷ 2 ∷ 0 ∷ 0 ∷ 0 ∷
+    1 ∷ 0 ∷ 2 ∷ 0 ∷ 1 ∷ 0 ∷ 0 ∷ 0 ∷
+    1 ∷ 0 ∷ 4 ∷ 0 ∷ 5 ∷ 0 ∷ 0 ∷ 0 ∷ []
+
+-- C and then this one, F: F's first condition repeats C's second; its second has the terms of C's first in another order, and stays.
+abbrev pub mergedCF : List ℕ
+mergedCF =
+    5 ∷ 0 ∷ 5 ∷ 0 ∷ 7 ∷ 0 ∷
+    1 ∷ 0 ∷ 3 ∷ 0 ∷ 4 ∷ 0 ∷ 6 ∷ 0 ∷ 7 ∷ 0 ∷
+    1 ∷ 0 ∷ 1 ∷ 0 ∷ 2 ∷ 0 ∷ 2 ∷ 0 ∷
+    1 ∷ 0 ∷ 1 ∷ 0 ∷ 3 ∷ 0 ∷ 0 ∷ 0 ∷
+    2 ∷ 0 ∷ 1 ∷ 0 ∷ 2 ∷ 0 ∷ 0 ∷ 0 ∷
+    1 ∷ 0 ∷ 1 ∷ 0 ∷ 3 ∷ 0 ∷ 5 ∷ 0 ∷
+    1 ∷ 0 ∷ 1 ∷ 0 ∷ 2 ∷ 0 ∷ 0 ∷ 0 ∷
+    1 ∷ 0 ∷ 2 ∷ 0 ∷ 1 ∷ 0 ∷ 0 ∷ 0 ∷
+    1 ∷ 0 ∷ 4 ∷ 0 ∷ 5 ∷ 0 ∷ 0 ∷ 0 ∷ []
+
+-- F and then C.
+abbrev pub mergedFC : List ℕ
+mergedFC =
+    5 ∷ 0 ∷ 5 ∷ 0 ∷ 7 ∷ 0 ∷
+    1 ∷ 0 ∷ 2 ∷ 0 ∷ 4 ∷ 0 ∷ 5 ∷ 0 ∷ 6 ∷ 0 ∷
+    2 ∷ 0 ∷ 1 ∷ 0 ∷ 2 ∷ 0 ∷ 0 ∷ 0 ∷
+    1 ∷ 0 ∷ 1 ∷ 0 ∷ 3 ∷ 0 ∷ 3 ∷ 0 ∷
+    1 ∷ 0 ∷ 1 ∷ 0 ∷ 2 ∷ 0 ∷ 0 ∷ 0 ∷
+    1 ∷ 0 ∷ 2 ∷ 0 ∷ 1 ∷ 0 ∷ 0 ∷ 0 ∷
+    1 ∷ 0 ∷ 4 ∷ 0 ∷ 5 ∷ 0 ∷ 0 ∷ 0 ∷
+    1 ∷ 0 ∷ 1 ∷ 0 ∷ 2 ∷ 0 ∷ 7 ∷ 0 ∷
+    1 ∷ 0 ∷ 1 ∷ 0 ∷ 3 ∷ 0 ∷ 0 ∷ 0 ∷ []
+
+-- "same 1 2" three times, "apart 2 1" before the last; and without its repeats.
+abbrev pub repeated : List ℕ
+repeated =
+    2 ∷ 0 ∷ 4 ∷ 0 ∷ 4 ∷ 0 ∷
+    1 ∷ 0 ∷ 2 ∷ 0 ∷ 3 ∷ 0 ∷ 4 ∷ 0 ∷
+    1 ∷ 0 ∷ 1 ∷ 0 ∷ 2 ∷ 0 ∷ 0 ∷ 0 ∷
+    1 ∷ 0 ∷ 1 ∷ 0 ∷ 2 ∷ 0 ∷ 0 ∷ 0 ∷
+    2 ∷ 0 ∷ 2 ∷ 0 ∷ 1 ∷ 0 ∷ 0 ∷ 0 ∷
+    1 ∷ 0 ∷ 1 ∷ 0 ∷ 2 ∷ 0 ∷ 0 ∷ 0 ∷ []
+
+abbrev pub unrepeated : List ℕ
+unrepeated =
+    2 ∷ 0 ∷ 2 ∷ 0 ∷ 2 ∷ 0 ∷
+    1 ∷ 0 ∷ 2 ∷ 0 ∷
+    1 ∷ 0 ∷ 1 ∷ 0 ∷ 2 ∷ 0 ∷ 0 ∷ 0 ∷
+    2 ∷ 0 ∷ 2 ∷ 0 ∷ 1 ∷ 0 ∷ 0 ∷ 0 ∷ []
+
+-- Withdrawn conditions before and behind "same 1 2": the later one repeats the first.
+abbrev pub withdrawnTwice : List ℕ
+withdrawnTwice =
+    2 ∷ 0 ∷ 3 ∷ 0 ∷ 1 ∷ 0 ∷
+    0 ∷ 0 ∷ 1 ∷ 0 ∷ 0 ∷ 0 ∷
+    1 ∷ 0 ∷ 1 ∷ 0 ∷ 2 ∷ 0 ∷ 0 ∷ 0 ∷ []
+
+abbrev pub withdrawnOnce : List ℕ
+withdrawnOnce =
+    2 ∷ 0 ∷ 2 ∷ 0 ∷ 1 ∷ 0 ∷
+    0 ∷ 0 ∷ 1 ∷ 0 ∷
+    1 ∷ 0 ∷ 1 ∷ 0 ∷ 2 ∷ 0 ∷ 0 ∷ 0 ∷ []
+
+-- 256 withdrawn conditions; and one.
+abbrev pub allWithdrawn : List ℕ
+allWithdrawn = 0 ∷ 0 ∷ 0 ∷ 1 ∷ 0 ∷ 0 ∷ replicate 512 0
+
+abbrev pub oneWithdrawn : List ℕ
+oneWithdrawn = 0 ∷ 0 ∷ 1 ∷ 0 ∷ 0 ∷ 0 ∷ 0 ∷ 0 ∷ []
+
+-- What is answered, the sheet that is refused, and the output afterwards.
+pub data Merging : Type 0 where
+  leaves : Answer → ℕ → List ℕ → Merging
+
+-- Of two sheets and so many bytes of output.
+abbrev pub merging : List ℕ → List ℕ → ℕ → Merging
+merging s t n = leaves (mergeAnswer anyCondition s t (room n)) (whichRefused s t) (mergeOut anyCondition s t (room n))
+
+pub mergings :
+    -- the records of a sheet may stand in any order; no output; one byte short; just enough; two bytes more, which stay
+    merging shuffledC sheetF 0
+    ∷ merging shuffledC sheetF 71
+    ∷ merging shuffledC sheetF 72
+    ∷ merging sheetC sheetF 74
+    -- in the other order
+    ∷ merging sheetF shuffledC 72
+    -- a sheet with itself: packed, and without its repeats
+    ∷ merging shuffledC shuffledC 34
+    ∷ merging repeated repeated 26
+    ∷ merging withdrawnTwice withdrawnTwice 18
+    ∷ merging empty empty 6
+    -- 512 conditions come in, and one is left
+    ∷ merging allWithdrawn allWithdrawn 8
+    -- with no conditions, and vacant records
+    ∷ merging vacantOnly repeated 28
+    ∷ merging repeated vacantOnly 25
+    -- the first sheet is read before the second, and both before 19
+    ∷ merging short unreached 0
+    ∷ merging unreached short 99
+    ∷ merging sheetC unreached 0
+    ∷ merging sheetC short 4
+    ∷ []
+    ≡ leaves (refused 19 72) 0 []
+    ∷ leaves (refused 19 72) 0 (room 71)
+    ∷ leaves (answered 72 0 0) 0 mergedCF
+    ∷ leaves (answered 72 0 0) 0 (mergedCF ++ room 2)
+    ∷ leaves (answered 72 0 0) 0 mergedFC
+    ∷ leaves (answered 34 0 0) 0 sheetC
+    ∷ leaves (answered 26 0 0) 0 unrepeated
+    ∷ leaves (answered 18 0 0) 0 withdrawnOnce
+    ∷ leaves (answered 6 0 0) 0 empty
+    ∷ leaves (answered 8 0 0) 0 oneWithdrawn
+    ∷ leaves (answered 26 0 0) 0 (unrepeated ++ room 2)
+    ∷ leaves (refused 19 26) 0 (room 25)
+    ∷ leaves (refused 1 0) 1 []
+    ∷ leaves (refused 7 1) 1 (room 99)
+    ∷ leaves (refused 7 1) 2 []
+    ∷ leaves (refused 1 0) 2 (room 4)
+    ∷ []
+unfolding number twoBytes headAt signAt spareAt firstLotAt secondLotAt nextAt zeroBytes vacant firstRefusal lowestRefusal check1 check2 check3 check4 wellFormed check5 member walkChain walkChains walked check17And6 check7 sheetChecks sheetVerdict chain recordsFrom termsFrom countUp conditions termRecord chainRecords sheetRecords headsFrom canonical flatten equalTerms equalConditions repeats withoutRepeats whichRefused mergedConditions check18 check19 mergeVerdict mergeAnswer mergeOut
+mergings = refl

@@ -1,0 +1,6 @@
+pub mod Repeats
+pub mod Merge
+pub mod Answers
+pub mod Promises
+pub mod Examples
+pub mod Inner

@@ -1,0 +1,63 @@
+-- One sheet of two (document 02, job 4).
+use Prim.Native.Nat.{ℕ, max}
+use mathlib.Core.Bool.{Bool}
+use mathlib.Core.List.{List, [], _∷_, _++_, flatten}
+use lib.Dec.{ltb}
+use lib.ListN.{length}
+use Rattle.sheet.specs.declared.Verdict.{Verdict}
+use Rattle.sheet.specs.declared.Verdict.the-variants.{Passes, Refuses}
+use Rattle.sheet.specs.Format.{mostConditions, mostRecords, lotCount}
+use Rattle.sheet.specs.Checks.{orElse, refusesIf, firstRefusal, sheetChecks, sheetVerdict}
+use Rattle.sheet.specs.Conditions.{Term, conditions}
+use Rattle.sheet.specs.Answers.{Answer, answered, answerOf}
+use Rattle.canonical.specs.Canonical.{canonical, canonicalLength}
+use Rattle.writer.specs.Answers.{outputAfter}
+use Rattle.merge.specs.Repeats.{withoutRepeats}
+
+-- "lots are the larger n"
+abbrev pub mergedLots : List ℕ → List ℕ → ℕ
+mergedLots s t = max (lotCount s) (lotCount t)
+
+-- "The first sheet is checked before the second, and a refusal from reading says which it was": 1 or 2, and 0 where both are accepted.
+abbrev pub whichOf : Verdict → Verdict → ℕ
+whichOf (Refuses check place) second = 1
+whichOf Passes (Refuses check place) = 2
+whichOf Passes Passes = 0
+
+unfoldable pub whichRefused : List ℕ → List ℕ → ℕ
+whichRefused s t = whichOf (sheetVerdict s) (sheetVerdict t)
+
+module _ (mayLeaveOut : List Term → Bool) (s t : List ℕ) where
+  -- "the conditions of the first come in order, then those of the second; one with the same terms in the same order as an earlier one is left out"
+  unfoldable pub mergedConditions : List (List Term)
+  mergedConditions = withoutRepeats mayLeaveOut [] (conditions s ++ conditions t)
+
+  -- "The result is packed."
+  abbrev pub merged : List ℕ
+  merged = canonical (mergedLots s t) mergedConditions
+
+  -- "the length needed"
+  abbrev pub mergedLength : ℕ
+  mergedLength = canonicalLength mergedConditions
+
+  -- "18, merged m, then k, above its most (place 2 or 3)"
+  unfoldable pub check18 : Verdict
+  check18 =
+      orElse (refusesIf (ltb mostConditions (length mergedConditions)) 18 2)
+      (refusesIf (ltb mostRecords (length (flatten mergedConditions))) 18 3)
+
+  -- "19, output too short (place the length needed)"
+  unfoldable pub check19 : List ℕ → Verdict
+  check19 out = refusesIf (ltb (length out) mergedLength) 19 mergedLength
+
+  -- "The first sheet is checked before the second"; 18 and 19 "both after the two readings".
+  unfoldable pub mergeVerdict : List ℕ → Verdict
+  mergeVerdict out = firstRefusal (sheetChecks s ++ (sheetChecks t ++ check18 ∷ check19 out ∷ []))
+
+  -- "each answers the length it wrote"
+  unfoldable pub mergeAnswer : List ℕ → Answer
+  mergeAnswer out = answerOf (mergeVerdict out) (answered mergedLength 0 0)
+
+  -- The output afterwards: on a refusal "nothing written".
+  unfoldable pub mergeOut : List ℕ → List ℕ
+  mergeOut out = outputAfter (mergeAnswer out) merged out
