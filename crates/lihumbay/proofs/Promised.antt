@@ -27,7 +27,10 @@ use Rattle.checker.specs.Answers.{checkedAnswer, PassedExactly, PassedMeans}
 use Rattle.writer.specs.Answers.{OfWritten}
 use Rattle.repack.specs.Repack.{repackedLength, repackVerdict, repackAnswer}
 use Rattle.repack.proofs.Answering.{repack-numbered}
-use Rattle.lihumbay.specs.Answers.{numbersOf}
+use Rattle.merge.specs.Repeats.{anyCondition}
+use Rattle.merge.specs.Merge.{mergedLength, mergeVerdict, mergeAnswer}
+use Rattle.merge.proofs.Answering.{merge-numbered}
+use Rattle.lihumbay.specs.Answers.{numbersOf, mergeNumbers}
 use Rattle.lihumbay.specs.Promises.{ZeroExactly, NineExactly, OneExactly, OneMeets, TwoExactly, TwoRefutes, NodesBounded, FirstUnmet, ZeroPassed, ZeroMeans, ZeroWritten}
 
 -- The refusal of an answer is its verdict's.
@@ -122,3 +125,13 @@ zero-written P out′ (answered first second third) number holds = λ z. holds
 pub repack-first : (s out : List ℕ) (a : Answer) → a ≡ repackAnswer s out → First a
 unfolding repackAnswer
 repack-first s out a answer check place e = refusal-number (repack-numbered s out) (answer-refuses (repackVerdict s out) (repackedLength s) 0 0 (sym e ∙ answer)) .0
+
+-- The sheet behind the place changes nothing of that.
+pub zero-merged : (P : List ℕ → Type 0) (out′ : List ℕ) (a : Answer) (sheet : ℕ) → First a → OfWritten P a out′ → ZeroWritten P (mergeNumbers a sheet) out′
+zero-merged P out′ (refused check place) sheet number holds = λ z. absurd (omega (arith, z, number check place refl))
+zero-merged P out′ (answered first second third) sheet number holds = λ z. holds
+
+pub merge-first : (s t out : List ℕ) (a : Answer) → a ≡ mergeAnswer anyCondition s t out → First a
+unfolding mergeAnswer
+merge-first s t out a answer check place e =
+    refusal-number (merge-numbered anyCondition s t out) (answer-refuses (mergeVerdict anyCondition s t out) (mergedLength anyCondition s t) 0 0 (sym e ∙ answer)) .0

@@ -1,5 +1,9 @@
 // The services for callers in C and Rust: functions over slices, each a pointer and then a length, that answer four numbers.
 ghost use mathlib.Core.Path.{_≡_};
+ghost use Prim.Native.Nat.{max};
+ghost use Rattle.sheet.specs.Format.{lotCount};
+ghost use Rattle.sheet.specs.Checks.{Accepted};
+ghost use Rattle.sheet.specs.Conditions.{conditions};
 ghost use Rattle.sheet.specs.Answers.{refused, answered, readAnswer, readingAnswer};
 ghost use Rattle.equality.specs.Evaluator.{evaluateAnswer};
 ghost use Rattle.evaluator.specs.Answers.{evaluationAnswer};
@@ -10,15 +14,20 @@ ghost use Rattle.checker.specs.Answers.{checkedAnswer};
 ghost use Rattle.writer.specs.Answers.{writtenAnswer};
 ghost use Rattle.repack.specs.Repack.{repacked, repackAnswer, repackOut};
 ghost use Rattle.repack.specs.Promises.{Alike, ServedAlike};
-ghost use Rattle.lihumbay.specs.Answers.{numbersOf};
+ghost use Rattle.merge.specs.Repeats.{anyCondition};
+ghost use Rattle.merge.specs.Merge.{mergedConditions, whichRefused, mergeAnswer, mergeOut};
+ghost use Rattle.merge.specs.Answers.{mergedAnswer, sheetRefused};
+ghost use Rattle.merge.specs.Promises.{MeetsBoth};
+ghost use Rattle.lihumbay.specs.Answers.{numbersOf, mergeNumbers};
 ghost use Rattle.lihumbay.specs.Promises.{ZeroExactly, NineExactly, OneExactly, OneMeets, TwoExactly, TwoRefutes, NodesBounded, FirstUnmet, ZeroPassed, ZeroMeans, ZeroWritten};
 use checker::CheckAnswer;
 use evaluator::Evaluation;
+use merge::MergeAnswer;
 use search::SearchAnswer;
 use sheet::Reading;
 use writer::WriteAnswer;
 
-// An answer: the check that refused, 0 where none did, then the place, or the values.
+// An answer: the check that refused, 0 where none did, then the place, or the values. Behind the place a merge has the number of the sheet that was refused.
 #[repr(C)]
 pub struct Numbers {
     pub check: u32,
@@ -101,6 +110,28 @@ fn of_written(answer: WriteAnswer) -> Numbers
     }
 }
 
+fn refused_in(check: u32, place: u32, sheet: u32) -> Numbers
+    ensures { λ r. ⌜ r ≡ mergeNumbers (refused check place) sheet ⌝ }
+{
+    Numbers {
+        check,
+        first: place,
+        second: sheet,
+        third: 0,
+    }
+}
+
+fn of_merge(answer: MergeAnswer) -> Numbers
+    ensures { λ r. ⌜ r ≡ mergeNumbers (mergedAnswer answer) (sheetRefused answer) ⌝ }
+{
+    match answer {
+        MergeAnswer::FirstRefused { check, place } => refused_in(check, place, 1),
+        MergeAnswer::SecondRefused { check, place } => refused_in(check, place, 2),
+        MergeAnswer::Refused { check, place } => refused(check, place),
+        MergeAnswer::Written { length } => answered(length, 0, 0),
+    }
+}
+
 // The reader: lots, conditions and term records.
 #[no_mangle]
 pub extern "C" fn lihumbay_read(sheet: &[u8]) -> Numbers
@@ -155,4 +186,20 @@ pub extern "C" fn lihumbay_repack(sheet: &[u8], out: &mut [u8]) -> Numbers
     ensures alike { λ r. ⌜ ZeroWritten (λ w. ServedAlike w (now (sheet .entry))) r (now (out .exit)) ⌝ }
 {
     of_written(repack::repack(sheet, out))
+}
+
+// Merging: how many bytes of the output were written. A refusal from reading has 1 or 2 behind the place, for the sheet that it came from.
+#[no_mangle]
+pub extern "C" fn lihumbay_merge(first: &[u8], second: &[u8], out: &mut [u8]) -> Numbers
+    ensures answer { λ r. ⌜ r ≡ mergeNumbers (mergeAnswer anyCondition (now (first .entry)) (now (second .entry)) (now (out .entry)))
+        (whichRefused (now (first .entry)) (now (second .entry))) ⌝ }
+    ensures output { λ r. ⌜ now (out .exit) ≡ mergeOut anyCondition (now (first .entry)) (now (second .entry)) (now (out .entry)) ⌝ }
+    ensures accepted { λ r. ⌜ ZeroWritten (λ w. Accepted w) r (now (out .exit)) ⌝ }
+    ensures packed { λ r. ⌜ ZeroWritten (λ w. repacked w ≡ w) r (now (out .exit)) ⌝ }
+    ensures lots { λ r. ⌜ ZeroWritten (λ w. lotCount w ≡ max (lotCount (now (first .entry))) (lotCount (now (second .entry)))) r (now (out .exit)) ⌝ }
+    ensures conditions { λ r. ⌜ ZeroWritten (λ w. conditions w ≡ mergedConditions anyCondition (now (first .entry)) (now (second .entry)))
+        r (now (out .exit)) ⌝ }
+    ensures meets { λ r. ⌜ ZeroWritten (λ w. MeetsBoth w (now (first .entry)) (now (second .entry))) r (now (out .exit)) ⌝ }
+{
+    of_merge(merge::merge(first, second, out))
 }
