@@ -1,10 +1,11 @@
-//! A second implementation of document 01, and of document 02's jobs 1 and 2, which shares no code with the product: it was written from the papers' text and,
-//! for document 02, the settled readings of it, and follows the text word for word, without regard to time. A sentence in quotation marks in a comment is the
-//! papers'. Where they say consignment, numbering, grounds list, judge, packed sheet and struck condition, the code says class, assignment, refutation,
+//! A second implementation of document 01, and of document 02's jobs 1, 2 and 4, which shares no code with the product: it was written from the papers' text
+//! and, for document 02, the settled readings of it, and follows the text word for word, without regard to time. A sentence in quotation marks in a comment is
+//! the papers'. Where they say consignment, numbering, grounds list, judge, packed sheet and struck condition, the code says class, assignment, refutation,
 //! evaluator, canonical bytes and withdrawn condition.
 pub mod answer;
 pub mod evaluator;
 pub mod limits;
+pub mod merge;
 pub mod node;
 pub mod reader;
 pub mod refutation;
@@ -16,6 +17,7 @@ pub mod writer;
 
 pub use answer::{Answer, Refusal};
 pub use evaluator::evaluate;
+pub use merge::merge;
 pub use reader::read;
 pub use refutation::check;
 pub use repack::repack;
