@@ -2,7 +2,8 @@
    Rust", says how to build the archive; docs/FORMAT.md has the bytes of sheets, groupings, stores and lists, with examples.
 
    Buffers. Each is a pointer and then its length in bytes. A pointer is not null, also where the length is 0. Bytes need no alignment. A buffer that is
-   written (grouping and store of a search, output of the repacker) overlaps no other buffer of the call; buffers that are only read may overlap each other.
+   written (grouping and store of a search, output of the repacker and of a merge) overlaps no other buffer of the call; buffers that are only read may overlap
+   each other, so that a sheet may be merged with itself.
 
    Limits. A sheet has at most 128 lots, 256 conditions and 1,024 term records, vacant ones included, so at most 8,710 bytes. A record of a store or list has 8
    bytes; a store holds its length divided by 8, rounded down, at most 65,535 records; a list has at most 65,535. Nothing has to be checked beforehand: what is
@@ -23,7 +24,8 @@ extern "C" {
 #endif
 
 /* An answer. `check` is 0, and the others are the values that the service gives, 0 where it has none; or `check` is the number of the check that refused, the
-   first that fails in the order of docs/FORMAT.md, `first` is its place, and the others are 0.
+   first that fails in the order of docs/FORMAT.md, `first` is its place, and the others are 0; but where a merge refuses a sheet that it reads,
+   `second` is 1 or 2, for the sheet.
 
        1  fewer than 6 bytes                                            0
        2  lots, conditions or term records above the most               1, 2 or 3
@@ -42,6 +44,8 @@ extern "C" {
       15  1,024 splits stand above the split                            the record
       16  the output is shorter than the packed sheet                   the packed sheet's length
       17  a vacant record is reached                                    the record
+      18  the merged sheet's conditions or terms are above the most     2 or 3
+      19  the output is shorter than the merged sheet                   the merged sheet's length
 
    A condition whose head is zero is withdrawn, and everything meets it. A term record of eight zero bytes is vacant: it belongs to no condition. */
 typedef struct {
@@ -76,6 +80,15 @@ lihumbay_numbers lihumbay_check(const uint8_t *sheet, size_t sheet_length, const
    except for the reader's number of term records, which has no vacant ones to count.
    No other byte of out is written, and on a refusal none is. */
 lihumbay_numbers lihumbay_repack(const uint8_t *sheet, size_t sheet_length, uint8_t *out, size_t out_length);
+
+/* The merge of two sheets into one: the bytes written, then 0, 0. The first sheet is read, then the second, each by checks 1 to 7 and 17; such a refusal has
+   the sheet, 1 or 2, in `second`. Then check 18, for conditions, then for terms, and 19, each with 0 in `second`; an output of 8,710 bytes is never too short.
+   The first `first` bytes of out are written: the packed sheet that has the larger number of lots, and the conditions of the first sheet in their order, then
+   those of the second in theirs, less each one that repeats an earlier one, of either sheet. A condition repeats another where it has the same terms in the
+   same order: the same sign, and the same two lots in the same order. Two withdrawn conditions, which have no term, repeat each other too. What 18 counts is
+   what is left: 512 conditions and 2,048 terms may come in. An assignment of numbers to lots meets the merged sheet exactly where it meets both sheets.
+   No other byte of out is written, and on a refusal none is. */
+lihumbay_numbers lihumbay_merge(const uint8_t *first, size_t first_length, const uint8_t *second, size_t second_length, uint8_t *out, size_t out_length);
 
 #ifdef __cplusplus
 }

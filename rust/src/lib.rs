@@ -1,9 +1,9 @@
 //! A verified solver for equality conditions: safe functions over the proved services.
 //!
-//! A *sheet* has lots 1 to n and conditions, each a choice of terms "lots a and b the same" or "lots a and b apart", or withdrawn. Five services take its
+//! A *sheet* has lots 1 to n and conditions, each a choice of terms "lots a and b the same" or "lots a and b apart", or withdrawn. Six services take its
 //! bytes: [`read`] accepts or refuses them, [`search`] finds a grouping that meets every condition or a refutation, [`check`] checks a refutation from any
-//! hand, [`evaluate`] says whether a grouping meets the sheet, and [`repack`] puts the records in order, so that equal lots and conditions are equal bytes.
-//! What they answer is proved; the types here only give the numbers and bytes their names.
+//! hand, [`evaluate`] says whether a grouping meets the sheet, [`repack`] puts the records in order, so that equal lots and conditions are equal bytes, and
+//! [`merge`] makes one sheet of two. What they answer is proved; the types here only give the numbers and bytes their names.
 //!
 //! ```
 //! use lihumbay::{SheetBuilder, Term, Verdict};
@@ -32,6 +32,7 @@ mod grouping;
 mod limits;
 mod line;
 mod list;
+mod merge;
 pub mod raw;
 mod record;
 mod records;
@@ -49,6 +50,7 @@ mod withdraw;
 pub use grouping::Grouping;
 pub use limits::*;
 pub use list::RecordList;
+pub use merge::{MergeRefusal, merge, merge_into};
 pub use record::Record;
 pub use records::{RecordError, Records};
 pub use refusal::{Check, Refusal, Subject};

@@ -1,7 +1,8 @@
 //! The services as the archive has them: slices in, four numbers out. Each call is safe, since a Rust slice is what the archive asks of its pointers: not
 //! null, of the length given, and, where it is written, apart from the others. A call touches only what it is lent.
 
-/// An answer. `check` is 0, and the others are the values that the service gives; or it is the number of the check that refused, and `first` its place.
+/// An answer. `check` is 0, and the others are the values that the service gives; or it is the number of the check that refused, and `first` its place. Where
+/// [`merge`] refuses a sheet that it reads, `second` says which one.
 #[repr(C)]
 #[derive(Clone, Copy, Debug, PartialEq, Eq, Hash)]
 pub struct Numbers {
@@ -28,6 +29,14 @@ unsafe extern "C" {
     fn lihumbay_evaluate(sheet: *const u8, sheet_length: usize, grouping: *const u8, grouping_length: usize) -> Numbers;
     fn lihumbay_check(sheet: *const u8, sheet_length: usize, list: *const u8, list_length: usize) -> Numbers;
     fn lihumbay_repack(sheet: *const u8, sheet_length: usize, out: *mut u8, out_length: usize) -> Numbers;
+    fn lihumbay_merge(
+        first: *const u8,
+        first_length: usize,
+        second: *const u8,
+        second_length: usize,
+        out: *mut u8,
+        out_length: usize,
+    ) -> Numbers;
 }
 
 /// The reader: lots, conditions, term records.
@@ -58,4 +67,11 @@ pub fn check(sheet: &[u8], list: &[u8]) -> Numbers {
 pub fn repack(sheet: &[u8], out: &mut [u8]) -> Numbers {
     // SAFETY: as in `search`.
     unsafe { lihumbay_repack(sheet.as_ptr(), sheet.len(), out.as_mut_ptr(), out.len()) }
+}
+
+/// The merge: the bytes written. A refusal from reading a sheet has 1 or 2 in `second`, for that sheet. Check 18: the merged sheet's conditions, place 2, or
+/// terms, place 3, are above the most. Check 19: the output is shorter than the merged sheet, whose length is the place.
+pub fn merge(first: &[u8], second: &[u8], out: &mut [u8]) -> Numbers {
+    // SAFETY: as in `search`; the two sheets are only read, and may be one slice.
+    unsafe { lihumbay_merge(first.as_ptr(), first.len(), second.as_ptr(), second.len(), out.as_mut_ptr(), out.len()) }
 }

@@ -22,6 +22,8 @@ pub enum Subject {
     List,
     /// The output lent for a sheet.
     Output,
+    /// The sheet that two make together.
+    Merged,
 }
 
 /// A service's refusal: the first check that failed, and its place as the table gives it. Further fields may come.
@@ -89,6 +91,8 @@ const TABLE: &[Row] = &[
     row(15, Subject::List, Place::ListRecord, "too many splits stand above a split"),
     row(16, Subject::Output, Place::Bytes, "the output is shorter than the packed sheet"),
     row(17, Subject::Sheet, Place::TermRecord, "a vacant record is reached from a condition"),
+    row(18, Subject::Merged, Place::Count, "a count of the merged sheet is above its most"),
+    row(19, Subject::Output, Place::Bytes, "the output is shorter than the merged sheet"),
 ];
 
 const _: () = assert!(HEADER_LENGTH == 6, "check 1's sentence names the length");
@@ -170,7 +174,7 @@ mod tests {
 
     #[test]
     fn the_table_has_each_check_once_in_order() {
-        assert!(TABLE.iter().map(|row| row.number).eq(1..=17));
+        assert!(TABLE.iter().map(|row| row.number).eq(1..=19));
     }
 
     #[test]
@@ -182,6 +186,9 @@ mod tests {
         assert_eq!(text(14, 6), "check 14, a record is left over, or missing: record 6");
         assert_eq!(text(16, 34), "check 16, the output is shorter than the packed sheet: bytes 34");
         assert_eq!(text(17, 2), "check 17, a vacant record is reached from a condition: record 2");
+        assert_eq!(text(18, 2), "check 18, a count of the merged sheet is above its most: conditions, at most 256");
+        assert_eq!(text(18, 3), "check 18, a count of the merged sheet is above its most: terms, at most 1024");
+        assert_eq!(text(19, 62), "check 19, the output is shorter than the merged sheet: bytes 62");
     }
 
     #[test]

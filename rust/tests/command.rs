@@ -218,6 +218,65 @@ fn only_a_condition_of_the_sheet_can_be_withdrawn() {
     assert_complained(&run(&["withdraw", "1"], &[0; 6]), 2, "standard input: there is no condition 1: the sheet has none");
 }
 
+const E: &[u8] = include_bytes!("../../samples/e.sheet");
+const C_AND_E: &[u8] = include_bytes!("../../samples/c-and-e.sheet");
+
+#[test]
+fn merging_makes_one_sheet_of_two() {
+    let (first, second) = (Scratch::with("first", SHUFFLED), Scratch::with("second", E));
+    for (arguments, input) in [
+        (["merge", first.path(), second.path()].as_slice(), [].as_slice()),
+        (&["merge", first.path()], E),
+        (&["merge", first.path(), "-"], E),
+        (&["merge", "-", second.path()], SHUFFLED),
+        (&["merge", "--", "-", second.path()], C),
+    ] {
+        let merged = run(arguments, input);
+        assert_eq!((merged.status, merged.out.as_slice(), merged.errors.as_str()), (0, C_AND_E, ""), "{arguments:?}");
+    }
+    assert_eq!((first.bytes().as_deref(), second.bytes().as_deref()), (Some(SHUFFLED), Some(E)), "the files themselves stay");
+    assert_eq!(run(&["merge", first.path(), first.path()], &[]).out, C);
+    let text = "lots 4\nsame 1 2 | same 1 3\napart 1 2\nsame 1 3 | same 1 2\nsame 3 4\n";
+    assert_said(&run(&["decode"], C_AND_E), 0, text);
+    assert_eq!(run(&["repack"], C_AND_E).out, C_AND_E);
+}
+
+#[test]
+fn a_refused_merge_names_the_sheet() {
+    let (sheet, cut) = (Scratch::with("sheet", C), Scratch::with("cut", &C[..33]));
+    let length = "check 3, the sheet's length isn't the one that its header gives";
+    let short = "check 1, the sheet is shorter than its header of 6 bytes";
+    let named = |which: &str, file: &Scratch| format!("{which} sheet, {}: {length}", file.path());
+    assert_complained(&run(&["merge", cut.path(), sheet.path()], &[]), 2, &named("first", &cut));
+    assert_complained(&run(&["merge", sheet.path(), cut.path()], &[]), 2, &named("second", &cut));
+    assert_complained(&run(&["merge", cut.path(), cut.path()], &[]), 2, &named("first", &cut));
+    assert_complained(&run(&["merge", cut.path()], &[1, 2, 3]), 2, &named("first", &cut));
+    assert_complained(&run(&["merge", sheet.path()], &[1, 2, 3]), 2, &format!("second sheet, standard input: {short}"));
+    assert_complained(&run(&["merge", "-", sheet.path()], &[1, 2, 3]), 2, &format!("first sheet, standard input: {short}"));
+    // The first sheet is refused before the second is opened.
+    let nowhere = Scratch::unwritten("nowhere");
+    assert_complained(&run(&["merge", cut.path(), nowhere.path()], &[]), 2, &named("first", &cut));
+    let unread = run(&["merge", sheet.path(), nowhere.path()], &[]);
+    assert!(unread.errors.starts_with(&format!("lihumbay: second sheet, {}: can't be read: ", nowhere.path())), "{}", unread.errors);
+    let text = run(&["merge", sheet.path()], A.as_bytes());
+    assert!(text.status == 2 && text.errors.starts_with("lihumbay: second sheet, standard input: check "), "{}", text.errors);
+    assert!(text.errors.ends_with("; this looks like text: `lihumbay encode` makes a sheet of it\n"), "{}", text.errors);
+}
+
+#[test]
+fn a_merged_sheet_that_is_too_large_is_refused() {
+    let conditions: String = (1..=128).map(|lot| format!("same 1 {lot}\napart 1 {lot}\n")).collect();
+    let conditions = Scratch::with("conditions", &encoded(&conditions));
+    let terms = Scratch::with("terms", &encoded(&vec!["same 1 1"; 1024].join(" | ")));
+    let over = "check 18, a count of the merged sheet is above its most";
+    assert_complained(&run(&["merge", conditions.path()], C), 2, &format!("{over}: conditions, at most 256"));
+    assert_complained(&run(&["merge", terms.path()], C), 2, &format!("{over}: terms, at most 1024"));
+    assert_complained(&run(&["merge", terms.path(), conditions.path()], &[]), 2, &format!("{over}: conditions, at most 256"));
+    for file in [conditions, terms] {
+        assert_eq!(Some(run(&["merge", file.path(), file.path()], &[]).out), file.bytes());
+    }
+}
+
 #[test]
 fn wrong_text_is_refused_with_its_place() {
     let lot = "standard input: line 2, column 20: lot 9 is out of range: lots count from 1 to 3";
@@ -247,6 +306,14 @@ fn wrong_arguments_are_refused() {
     wrong(&["search", "--grouping", "-"], "`--grouping` needs the name of a file; see `lihumbay search --help`");
     wrong(&["search", "a", "b"], "2 files are given, where the sheet should be; see `lihumbay search --help`");
     wrong(&["repack", "a", "b"], "2 files are given, where the sheet should be; see `lihumbay repack --help`");
+    wrong(&["merge"], "0 files are given, where the first sheet and the second sheet should be; see `lihumbay merge --help`");
+    wrong(
+        &["merge", "a", "b", "c"],
+        "3 files are given, where the first sheet and the second sheet should be; see `lihumbay merge --help`",
+    );
+    wrong(&["merge", "-"], "only one file can be standard input; see `lihumbay merge --help`");
+    wrong(&["merge", "-", "-"], "only one file can be standard input; see `lihumbay merge --help`");
+    wrong(&["merge", "--repack"], "there is no option `--repack`; see `lihumbay merge --help`");
     wrong(&["withdraw"], "the condition's number is missing; see `lihumbay withdraw --help`");
     wrong(&["withdraw", "a", "b", "1"], "2 files are given, where the sheet should be; see `lihumbay withdraw --help`");
     for number in ["0", "257", "4294967297", "99999999999999999999", "+1", "", "c.sheet"] {
@@ -279,7 +346,7 @@ fn help_is_there_for_the_whole_and_for_each_command() {
         assert_eq!((whole.status, whole.errors.as_str()), (0, ""));
         assert!(whole.text().contains("Exit status:"));
     }
-    for name in ["encode", "decode", "repack", "withdraw", "search", "check", "evaluate"] {
+    for name in ["encode", "decode", "repack", "merge", "withdraw", "search", "check", "evaluate"] {
         let help = run(&[name, "--help"], &[]);
         assert!(help.text().starts_with(&format!("Usage: lihumbay {name} ")), "{name}");
         assert_said(&run(&["help", name], &[]), 0, help.text());

@@ -94,6 +94,28 @@ fn a_withdrawn_condition_has_no_term_and_the_others_have_theirs() {
 }
 
 #[test]
+fn a_merged_sheet_has_the_conditions_of_both_once() {
+    let mut random = Random(6);
+    let mut left_out = 0;
+    for _ in 0..2000 {
+        let (first, second) = (random.sheet(), random.sheet());
+        let mut expected = SheetBuilder::new(first.lots().max(second.lots())).unwrap();
+        let mut seen: Vec<&[Term]> = Vec::new();
+        for condition in first.conditions().iter().chain(second.conditions()) {
+            if seen.contains(&condition.terms()) {
+                left_out += 1;
+                continue;
+            }
+            seen.push(condition.terms());
+            expected.condition(condition.terms().iter().copied()).unwrap();
+        }
+        let bytes = [&first, &second].map(|sheet| reordered(&sheet.to_bytes(), sheet.conditions().len(), &mut random));
+        assert_eq!(lihumbay::merge(&bytes[0], &bytes[1]), Ok(expected.finish().to_bytes()));
+    }
+    assert!(left_out > 100, "{left_out} conditions left out");
+}
+
+#[test]
 fn verdicts_pass_the_other_services() {
     let mut random = Random(2);
     let (mut met, mut cannot) = (0, 0);

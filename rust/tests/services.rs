@@ -1,6 +1,7 @@
 //! The services through the package's types, on the sheets of document 01.
 use lihumbay::{
-    Evaluation, MOST_RECORDS, MOST_TERMS, RECORD_LENGTH, Record, RecordList, SEARCH_STACK, Sheet, SheetBuilder, Subject, Term, Verdict,
+    Evaluation, MOST_CONDITIONS, MOST_RECORDS, MOST_TERMS, MergeRefusal, RECORD_LENGTH, Record, RecordList, SEARCH_STACK, Sheet,
+    SheetBuilder, Subject, Term, Verdict,
 };
 
 fn sheet(text: &str) -> Vec<u8> {
@@ -216,6 +217,78 @@ fn packing_drops_the_vacant_records() {
     let refusal = lihumbay::repack_into(&without, &mut out[..17]).unwrap_err();
     assert_eq!((refusal.check.number(), refusal.place), (16, 18));
     assert_eq!((lihumbay::read(&without).unwrap().records, lihumbay::read(&packed).unwrap().records), (3, 1));
+}
+
+/// Lots 1 to 4; its first condition is sheet C's second.
+const E: &[u8] = include_bytes!("../../samples/e.sheet");
+const C_AND_E: &[u8] = include_bytes!("../../samples/c-and-e.sheet");
+
+#[test]
+fn merging_leaves_out_what_repeats_an_earlier_condition() {
+    assert_eq!(lihumbay::merge(&sheet(C), E), Ok(C_AND_E.to_vec()));
+    assert_eq!(lihumbay::merge(C_IN_ANOTHER_ORDER, E), Ok(C_AND_E.to_vec()));
+    assert_eq!(C_AND_E, sheet("lots 4\nsame 1 2 | same 1 3\napart 1 2\nsame 1 3 | same 1 2\nsame 3 4"));
+    assert_eq!(lihumbay::merge(E, &sheet(C)), Ok(sheet("apart 1 2\nsame 1 3 | same 1 2\nsame 3 4\nsame 1 2 | same 1 3")));
+    assert_eq!(lihumbay::merge(C_IN_ANOTHER_ORDER, C_IN_ANOTHER_ORDER), Ok(sheet(C)));
+    assert_eq!(lihumbay::merge(&sheet("same 1 1\nsame 1 1"), &sheet("lots 0")), Ok(sheet("same 1 1")));
+    assert_eq!(lihumbay::merge(&sheet("lots 0"), &sheet("lots 7")), Ok(sheet("lots 7")));
+}
+
+#[test]
+fn withdrawn_conditions_repeat_each_other() {
+    let without = lihumbay::withdraw(C_IN_ANOTHER_ORDER, 1).unwrap();
+    assert_eq!(lihumbay::merge(&without, &without), Ok(sheet("lots 3\nwithdrawn\napart 1 2")));
+    assert_eq!(lihumbay::merge(&sheet("same 1 1\nwithdrawn"), &sheet("withdrawn\napart 1 1")), Ok(sheet("same 1 1\nwithdrawn\napart 1 1")));
+}
+
+#[test]
+fn a_lent_output_is_written_only_as_far_as_the_merged_sheet_goes() {
+    let mut out = [9; 64];
+    assert_eq!(lihumbay::merge_into(&sheet(C), E, &mut out), Ok(62));
+    assert_eq!((&out[..62], &out[62..]), (C_AND_E, [9; 2].as_slice()));
+    let mut short = [9; 61];
+    let refused = lihumbay::merge_into(&sheet(C), E, &mut short).unwrap_err();
+    assert!(matches!(refused, MergeRefusal::Merged(_)));
+    assert_eq!((refused.refusal().check.number(), refused.refusal().place, short), (19, 62, [9; 61]));
+    assert_eq!(refused.refusal().check.subject(), Some(Subject::Output));
+}
+
+#[test]
+fn a_refused_merge_says_which_sheet() {
+    let refusal = |sheet: &[u8]| lihumbay::read(sheet).unwrap_err();
+    let (cut, empty) = (&C_IN_ANOTHER_ORDER[..33], [].as_slice());
+    assert_eq!(lihumbay::merge(cut, E), Err(MergeRefusal::First(refusal(cut))));
+    assert_eq!(lihumbay::merge(E, cut), Err(MergeRefusal::Second(refusal(cut))));
+    assert_eq!(lihumbay::merge(cut, empty), Err(MergeRefusal::First(refusal(cut))));
+    assert_eq!(lihumbay::merge(empty, cut), Err(MergeRefusal::First(refusal(empty))));
+    // Longer than any sheet: the output that is made for it is not.
+    let long = [C_IN_ANOTHER_ORDER, &[0; 20_000]].concat();
+    assert_eq!(lihumbay::merge(E, &long), Err(MergeRefusal::Second(refusal(&long))));
+}
+
+/// As many different conditions of one term as a sheet can have.
+fn most_conditions() -> Vec<u8> {
+    let mut builder = SheetBuilder::new(128).unwrap();
+    let terms = (1..=128).flat_map(|lot| [Term::Same(1, lot), Term::Apart(1, lot)]);
+    for term in terms.take(MOST_CONDITIONS) {
+        builder.condition([term]).unwrap();
+    }
+    builder.finish().to_bytes()
+}
+
+#[test]
+fn the_merged_sheet_has_the_limits_of_a_sheet() {
+    let over = |first: &[u8], second: &[u8]| match lihumbay::merge(first, second) {
+        Err(MergeRefusal::Merged(refusal)) => (refusal.check.number(), refusal.place, refusal.check.subject()),
+        other => panic!("{other:?}"),
+    };
+    // `deepest` has as many terms as a sheet can have, the last of them in its condition "apart 1 1".
+    assert_eq!(over(&most_conditions(), &sheet(C)), (18, 2, Some(Subject::Merged)));
+    assert_eq!(over(&sheet(C), &deepest()), (18, 3, Some(Subject::Merged)));
+    assert_eq!(over(&most_conditions(), &deepest()), (18, 2, Some(Subject::Merged)));
+    assert_eq!(lihumbay::merge(&most_conditions(), &most_conditions()), Ok(most_conditions()));
+    assert_eq!(lihumbay::merge(&deepest(), &deepest()), Ok(deepest()));
+    assert_eq!(lihumbay::merge(&deepest(), &sheet("apart 1 1")), Ok(deepest()));
 }
 
 #[test]

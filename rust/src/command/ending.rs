@@ -8,7 +8,7 @@ pub enum Status {
     Yes = 0,
     /// Cannot be met, refused by the refutation checker, or not met.
     No = 1,
-    /// A refused sheet, a file that can't be read or written, or wrong arguments.
+    /// A refused sheet, two sheets too large to merge, a file that can't be read or written, or wrong arguments.
     Wrong = 2,
     /// A search's store is full, which says neither yes nor no.
     Full = 3,
@@ -34,5 +34,10 @@ impl Failure {
 
     pub fn with(self, status: Status) -> Self {
         Failure { status, ..self }
+    }
+
+    /// The same failure, with what it is of before its message.
+    pub fn of(self, what: &str) -> Self {
+        Failure { message: format!("{what}, {}", self.message), ..self }
     }
 }

@@ -10,6 +10,7 @@ Commands:
   encode    make a sheet of readable text
   decode    write a sheet as readable text
   repack    put a sheet's records in order, so that equal sheets are equal files
+  merge     make one sheet of two, met by what meets both
   withdraw  take a condition out of a sheet; the others keep their numbers
   search    find a grouping that meets a sheet, or a refutation
   check     check a refutation from any hand
@@ -23,7 +24,8 @@ A file that is `-`, or the last one if it is missing, is standard input.
 Exit status:
   0  met, passed, written
   1  cannot be met, refused by the refutation checker, not met
-  2  a refused sheet, a file that can't be read or written, wrong arguments
+  2  a refused sheet, two sheets too large to merge, a file that can't be read
+     or written, wrong arguments
   3  a search's store is full, which says neither met nor cannot
 ";
 
@@ -71,6 +73,27 @@ a packed sheet stays as it is.
 
 Exit status: 0 written, 2 the sheet is refused.
 ";
+
+fn merge() -> String {
+    format!(
+        "\
+Usage: lihumbay merge FIRST [SECOND] > MERGED
+
+Makes one sheet of two, and writes its bytes to standard output. What meets the
+merged sheet is what meets both. It has the larger number of lots, and the
+conditions of the first sheet in their order, then those of the second. A
+condition with the same terms in the same order as an earlier one, of either
+sheet, is left out; so is a withdrawn one where one came before. The records
+are in order, as `lihumbay repack` writes them.
+
+The first sheet is read before the second, and a refusal says which of the two
+is refused. The merged sheet has at most {MOST_CONDITIONS} conditions and {MOST_TERMS} terms, those
+that are left out not counted.
+
+Exit status: 0 written, 2 a sheet is refused, or the merged one is too large.
+"
+    )
+}
 
 const WITHDRAW: &str = "\
 Usage: lihumbay withdraw [SHEET] CONDITION > WITHDRAWN
@@ -134,6 +157,7 @@ pub fn of(command: &str) -> Option<String> {
         "encode" => encode(),
         "decode" => DECODE.into(),
         "repack" => REPACK.into(),
+        "merge" => merge(),
         "withdraw" => WITHDRAW.into(),
         "search" => search(),
         "check" => CHECK.into(),

@@ -33,6 +33,7 @@ fn answer(request: Request) -> Result<Status, Failure> {
         Request::Encode { text } => sheets::encode(&text),
         Request::Decode { sheet } => sheets::decode(&sheet),
         Request::Repack { sheet } => sheets::repack(&sheet),
+        Request::Merge { first, second } => sheets::merge(&first, &second),
         Request::Withdraw { sheet, condition } => sheets::withdraw(&sheet, condition),
         Request::Search(search) => search::run(&search),
         Request::Check { sheet, list } => answers::check(&sheet, &list),

@@ -1,4 +1,4 @@
-//! Sheets from files, and `encode`, `decode`, `repack` and `withdraw`.
+//! Sheets from files, and `encode`, `decode`, `repack`, `merge` and `withdraw`.
 use super::ending::{Failure, Status};
 use super::files::{self, Source};
 use lihumbay::{MOST_SHEET_LENGTH, Sheet};
@@ -40,6 +40,14 @@ pub fn repack(source: &Source) -> Result<Status, Failure> {
     let accepted = read(source)?;
     let canonical = lihumbay::repack(&accepted.bytes).map_err(|refusal| source.failure(refusal))?;
     files::print(|out| out.write_all(&canonical))
+}
+
+/// Both files have sheets, so a failure says which of the two it is of. The first is looked at before the second is opened.
+pub fn merge(first: &Source, second: &Source) -> Result<Status, Failure> {
+    let first = read(first).map_err(|failure| failure.of("first sheet"))?;
+    let second = read(second).map_err(|failure| failure.of("second sheet"))?;
+    let merged = lihumbay::merge(&first.bytes, &second.bytes).map_err(|refusal| Failure::new(refusal.to_string()))?;
+    files::print(|out| out.write_all(&merged))
 }
 
 pub fn withdraw(source: &Source, condition: u32) -> Result<Status, Failure> {

@@ -164,6 +164,63 @@ static void withdrawn(void) {
     expect("read, a chain into a vacant record", is(lihumbay_read(vacant, sizeof vacant), 17, 2, 0, 0));
 }
 
+/* apart 1 2; same 1 3 or same 1 2; same 3 4. The first condition repeats one of sheet C, the second has the terms of another in another order. */
+static const uint8_t sheet_e[] = {
+    4, 0, 3, 0, 4, 0,       2, 0, 4, 0, 3, 0,       1, 0, 1, 0, 2, 0, 0, 0,
+    2, 0, 1, 0, 2, 0, 0, 0, 1, 0, 3, 0, 4, 0, 0, 0, 1, 0, 1, 0, 3, 0, 1, 0,
+};
+
+static const uint8_t merged_c_e[] = {
+    4, 0, 4, 0, 6, 0,       1, 0, 3, 0, 4, 0, 6, 0, 1, 0, 1, 0, 2, 0, 2, 0, 1, 0, 1, 0, 3, 0, 0, 0,
+    2, 0, 1, 0, 2, 0, 0, 0, 1, 0, 1, 0, 3, 0, 5, 0, 1, 0, 1, 0, 2, 0, 0, 0, 1, 0, 3, 0, 4, 0, 0, 0,
+};
+
+static lihumbay_numbers merged(size_t first_length, size_t second_length, uint8_t *out, size_t out_length) {
+    return lihumbay_merge(sheet_c, first_length, sheet_e, second_length, out, out_length);
+}
+
+static void merge(void) {
+    uint8_t out[64];
+    memset(out, 170, sizeof out);
+    expect("merge, no room", is(merged(34, 44, out, 0), 19, 62, 0, 0));
+    expect("merge, a byte too short", is(merged(34, 44, out, 61), 19, 62, 0, 0));
+    expect("merge, the first sheet refused", is(merged(33, 44, out, 64), 3, 0, 1, 0));
+    expect("merge, the second sheet refused", is(merged(34, 5, out, 64), 1, 0, 2, 0));
+    expect("merge, both sheets refused", is(merged(33, 5, out, 64), 3, 0, 1, 0));
+    expect("nothing written", all(out, 0, 64, 170));
+    expect("merge", is(merged(34, 44, out, 62), 0, 62, 0, 0));
+    expect("its sheet", memcmp(out, merged_c_e, sizeof merged_c_e) == 0 && all(out, 62, 64, 170));
+    memset(out, 170, sizeof out);
+    expect("merge a sheet with itself", is(lihumbay_merge(sheet_c, 34, sheet_c, 34, out, 34), 0, 34, 0, 0));
+    expect("no byte changed", memcmp(out, sheet_c, sizeof sheet_c) == 0 && all(out, 34, 64, 170));
+}
+
+/* A sheet of 256 conditions, merged with another condition, and one of 1,024 terms in one condition, merged with another term. */
+static void merge_limits(void) {
+    static uint8_t conditions[6 + 2 * 256 + 8 * 256], terms[6 + 2 + 8 * 1024], out[sizeof terms];
+    static const uint8_t header_conditions[] = {128, 0, 0, 1, 0, 1}, header_terms[] = {1, 0, 1, 0, 0, 4, 1, 0};
+    memcpy(conditions, header_conditions, sizeof header_conditions);
+    for (size_t i = 0; i < 256; i++) {
+        uint8_t record[] = {i < 128 ? 1 : 2, 0, 1, 0, (uint8_t)(i % 128 + 1), 0, 0, 0};
+        conditions[6 + 2 * i] = (uint8_t)(i + 1);
+        conditions[7 + 2 * i] = (uint8_t)((i + 1) >> 8);
+        memcpy(conditions + 6 + 2 * 256 + 8 * i, record, sizeof record);
+    }
+    memcpy(terms, header_terms, sizeof header_terms);
+    for (size_t i = 0; i < 1024; i++) {
+        size_t next = i < 1023 ? i + 2 : 0;
+        uint8_t record[] = {1, 0, 1, 0, 1, 0, (uint8_t)next, (uint8_t)(next >> 8)};
+        memcpy(terms + 8 + 8 * i, record, sizeof record);
+    }
+    memset(out, 170, sizeof out);
+    expect("merge, too many conditions", is(lihumbay_merge(conditions, sizeof conditions, sheet_c, 34, out, sizeof out), 18, 2, 0, 0));
+    expect("merge, too many terms", is(lihumbay_merge(terms, sizeof terms, sheet_e, 44, out, sizeof out), 18, 3, 0, 0));
+    expect("merge, both", is(lihumbay_merge(conditions, sizeof conditions, terms, sizeof terms, out, 0), 18, 2, 0, 0));
+    expect("nothing written", all(out, 0, sizeof out, 170));
+    expect("merge, repeats alone", is(lihumbay_merge(terms, sizeof terms, terms, sizeof terms, out, sizeof out), 0, sizeof terms, 0, 0));
+    expect("its sheet", memcmp(out, terms, sizeof terms) == 0);
+}
+
 int main(void) {
     reader();
     search_met();
@@ -173,6 +230,8 @@ int main(void) {
     checker();
     repacker();
     withdrawn();
+    merge();
+    merge_limits();
     puts(failed ? "calls from C: FAILED" : "calls from C: ok");
     return failed;
 }

@@ -14,12 +14,17 @@ int main() {
     const lihumbay_numbers evaluated = lihumbay_evaluate(sheet.data(), sheet.size(), grouping.data(), grouping.size());
     const lihumbay_numbers checked = lihumbay_check(sheet.data(), sheet.size(), store.data(), 32);
     const lihumbay_numbers repacked = lihumbay_repack(sheet.data(), sheet.size(), out.data(), out.size());
+    std::vector<std::uint8_t> both(35, 170);
+    const lihumbay_numbers merged = lihumbay_merge(sheet.data(), sheet.size(), sheet.data(), sheet.size(), both.data(), both.size());
+    const lihumbay_numbers cut = lihumbay_merge(sheet.data(), sheet.size(), sheet.data(), 33, both.data(), both.size());
     const bool accepted = read.check == 0 && read.first == 3 && read.second == 2 && read.third == 3;
     const bool met = found.check == 0 && found.first == 1 && found.second == 4 && found.third == 0;
     const bool written = grouping == std::vector<std::uint8_t>{1, 2, 1, 170} && std::count(store.begin() + 32, store.end(), 170) == 8;
     const bool no_refutation = checked.check == 11 && checked.first == 4;
     const bool canonical = repacked.check == 0 && repacked.first == 34 && std::equal(sheet.begin(), sheet.end(), out.begin()) && out.back() == 170;
-    const bool ok = accepted && met && written && no_refutation && canonical && evaluated.check == 0 && evaluated.first == 0;
+    const bool one_sheet = merged.check == 0 && merged.first == 34 && merged.second == 0 && both == out;
+    const bool second_named = cut.check == 3 && cut.first == 0 && cut.second == 2 && cut.third == 0;
+    const bool ok = accepted && met && written && no_refutation && canonical && one_sheet && second_named && evaluated.check == 0 && evaluated.first == 0;
     std::cout << (ok ? "calls from C++: ok\n" : "calls from C++: FAILED\n");
     return ok ? 0 : 1;
 }

@@ -79,6 +79,21 @@ def withdrawn(read, search, evaluate, check, repack):
     assert read(C[:18] + bytes(8) + C[26:]) == (17, 2, 0, 0)
 
 
+def merged(merge):
+    e = bytes.fromhex("040003000400 020004000300 0100010002000000 0200010002000000 0100030004000000 0100010003000100")
+    records = "0100010002000200 0100010003000000 0200010002000000 0100010003000500 0100010002000000 0100030004000000"
+    out = bytearray(b"\xaa" * 64)
+    assert merge(C, e, out) == (0, 62, 0, 0)
+    assert out == bytes.fromhex("040004000600 0100030004000600" + records) + b"\xaa" * 2
+    short = bytearray(b"\xaa" * 61)
+    assert merge(C, e, short) == (19, 62, 0, 0)
+    assert merge(C[:33], e[:5], short) == (3, 0, 1, 0)
+    assert merge(C, e[:5], short) == (1, 0, 2, 0)
+    assert short == b"\xaa" * 61
+    assert merge(C, C_IN_ANOTHER_ORDER, short) == (0, 34, 0, 0)
+    assert short == C + b"\xaa" * 27
+
+
 def main():
     library = ctypes.CDLL(sys.argv[1])
     read, evaluate = service(library, "lihumbay_read", 1), service(library, "lihumbay_evaluate", 2)
@@ -89,6 +104,7 @@ def main():
     repack = service(library, "lihumbay_repack", 2)
     reordered(repack)
     withdrawn(read, search, evaluate, check, repack)
+    merged(service(library, "lihumbay_merge", 3))
     print("calls from Python: ok")
 
 

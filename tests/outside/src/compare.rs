@@ -104,7 +104,7 @@ fn compare_repack(case: &Case) -> Result<Repacked, String> {
     Ok(archive)
 }
 
-fn guarded(service: &str, guards: bool) -> Result<(), String> {
+pub(crate) fn guarded(service: &str, guards: bool) -> Result<(), String> {
     if guards { Ok(()) } else { Err(format!("{service}: a byte next to a buffer was written")) }
 }
 
@@ -114,11 +114,11 @@ fn equal(service: &str, archive: raw::Numbers, second: Result<Answer, Refusal>) 
     Ok(archive)
 }
 
-fn same(service: &str, archive: &[u32; 4], second: &[u32; 4]) -> Result<(), String> {
+pub(crate) fn same(service: &str, archive: &[u32; 4], second: &[u32; 4]) -> Result<(), String> {
     if archive == second { Ok(()) } else { Err(format!("{service}: the archive gives {archive:?}, the second implementation {second:?}")) }
 }
 
-fn same_bytes(buffer: &str, archive: &[u8], second: &[u8]) -> Result<(), String> {
+pub(crate) fn same_bytes(buffer: &str, archive: &[u8], second: &[u8]) -> Result<(), String> {
     match archive.iter().zip(second).position(|(one, other)| one != other) {
         None => Ok(()),
         Some(at) => Err(format!("{buffer}, byte {at}: {:02x} in the archive's, {:02x} in the second's", archive[at], second[at])),

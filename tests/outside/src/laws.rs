@@ -60,9 +60,9 @@ fn surrounded(case: &Case, written: &Repacked) -> Result<(), String> {
     Ok(())
 }
 
-const AROUND: usize = 5;
+pub(crate) const AROUND: usize = 5;
 
-fn among(bytes: &[u8], around: u8) -> Vec<u8> {
+pub(crate) fn among(bytes: &[u8], around: u8) -> Vec<u8> {
     [&[around; AROUND], bytes, &[around; 16]].concat()
 }
 

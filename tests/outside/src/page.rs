@@ -35,7 +35,7 @@ impl Page {
             let Some(head) = line.strip_prefix("```") else { continue };
             let body: Vec<&str> = lines.by_ref().take_while(|line| *line != "```").collect();
             match head.split_once(' ') {
-                Some(("hex", name)) => page.name(name, body.iter().flat_map(|line| bytes(before(line, ';'))).collect()),
+                Some(("hex", name)) => page.name(name, body.iter().flat_map(|line| line_bytes(before(line, ';'))).collect()),
                 Some(("text", name)) => page.name(name, body.iter().flat_map(|line| [line.as_bytes(), b"\n"].concat()).collect()),
                 _ if head == "calls" => body.iter().for_each(|line| page.call(line)),
                 _ => panic!("the page has a block `{head}`"),
@@ -89,6 +89,18 @@ fn before(text: &str, end: char) -> &str {
     text.split(end).next().unwrap_or_default()
 }
 
+/// The bytes of a line. With `{FROM..TO}` in it, the line stands for one with each of these numbers in its place, in two bytes, low byte first.
+fn line_bytes(line: &str) -> Vec<u8> {
+    let Some((before, rest)) = line.split_once('{') else { return bytes(line).collect() };
+    let (range, after) = rest.split_once('}').unwrap_or_else(|| panic!("`{line}` has an open brace"));
+    let (from, to) = range.split_once("..").unwrap_or_else(|| panic!("FROM..TO: {line}"));
+    let one = |number: usize| {
+        let number = u16::try_from(number).unwrap_or_else(|_| panic!("a number of two bytes: {line}")).to_le_bytes();
+        bytes(before).chain(number).chain(bytes(after)).collect::<Vec<u8>>()
+    };
+    (number(from)..=number(to)).flat_map(one).collect()
+}
+
 fn bytes(text: &str) -> impl Iterator<Item = u8> {
     text.split_whitespace().map(hex)
 }
@@ -99,4 +111,16 @@ fn hex(text: &str) -> u8 {
 
 fn number(text: &str) -> usize {
     text.parse().unwrap_or_else(|_| panic!("`{text}` is no number"))
+}
+
+#[cfg(test)]
+mod tests {
+    use super::line_bytes;
+
+    #[test]
+    fn numbers_in_braces_are_counted() {
+        assert_eq!(line_bytes("01 0A "), [1, 10]);
+        assert_eq!(line_bytes("{255..257}"), [255, 0, 0, 1, 1, 1]);
+        assert_eq!(line_bytes("07 {1..2} 09"), [7, 1, 0, 9, 7, 2, 0, 9]);
+    }
 }

@@ -39,6 +39,14 @@ fn repacked(call: &Call, sheet: &[u8], out_after: &[u8]) -> Answer {
     Answer::Numbers(numbers)
 }
 
+/// The numbers of a merge, with the output as the page has it afterwards.
+fn merged(call: &Call, first: &[u8], second: &[u8], out_after: &[u8]) -> Answer {
+    let mut out = vec![FILL; out_after.len()];
+    let numbers = plain(raw::merge(first, second, &mut out));
+    assert_eq!(out, out_after, "the output after {}", call.text);
+    Answer::Numbers(numbers)
+}
+
 fn answered(call: &Call) -> Answer {
     match (call.service.as_str(), call.given.as_slice()) {
         ("read", [sheet]) => Answer::Numbers(plain(raw::read(sheet))),
@@ -46,6 +54,7 @@ fn answered(call: &Call) -> Answer {
         ("evaluate", [sheet, grouping]) => Answer::Numbers(plain(raw::evaluate(sheet, grouping))),
         ("check", [sheet, list]) => Answer::Numbers(plain(raw::check(sheet, list))),
         ("repack", [sheet, out]) => repacked(call, sheet, out),
+        ("merge", [first, second, out]) => merged(call, first, second, out),
         ("print", [sheet]) => Answer::Printed(printed(sheet)),
         _ => panic!("there is no such call: {}", call.text),
     }
@@ -77,8 +86,11 @@ fn each_check_has_its_row_and_a_refusal() {
 }
 
 #[test]
-fn sheet_c_is_the_sample() {
-    assert_eq!(Page::of(TEXT).block("C"), include_bytes!("../../../samples/c.sheet"));
-    assert_eq!(Page::of(TEXT).block("C-in-another-order"), include_bytes!("../../../samples/c-in-another-order.sheet"));
-    assert_eq!(Page::of(TEXT).block("C-withdrawn"), include_bytes!("../../../samples/c-withdrawn.sheet"));
+fn the_sheets_of_the_page_are_the_samples() {
+    let page = Page::of(TEXT);
+    assert_eq!(page.block("C"), include_bytes!("../../../samples/c.sheet"));
+    assert_eq!(page.block("C-in-another-order"), include_bytes!("../../../samples/c-in-another-order.sheet"));
+    assert_eq!(page.block("C-withdrawn"), include_bytes!("../../../samples/c-withdrawn.sheet"));
+    assert_eq!(page.block("E"), include_bytes!("../../../samples/e.sheet"));
+    assert_eq!(page.block("C-and-E"), include_bytes!("../../../samples/c-and-e.sheet"));
 }

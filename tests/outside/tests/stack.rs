@@ -4,8 +4,8 @@ use lihumbay::raw;
 use outside::compare::plain;
 use outside::families::{DEEPEST, deep, joined};
 use outside::random::Random;
-use second::limits::{MOST_NODES, MOST_TERMS, NODE_LENGTH};
-use second::writer::{sheet_bytes, sheet_bytes_in};
+use second::limits::{MOST_CONDITIONS, MOST_NODES, MOST_TERMS, NODE_LENGTH};
+use second::writer::{same, sheet_bytes, sheet_bytes_in};
 use std::thread;
 
 const SEARCH: usize = 900_000;
@@ -34,6 +34,20 @@ fn others(sheet: Vec<u8>, list: Vec<u8>) {
         assert_eq!(plain(raw::evaluate(&sheet, &[1; 128]))[0], 0);
         let mut out = vec![0; sheet.len()];
         assert_eq!(plain(raw::repack(&sheet, &mut out)), [0, sheet.len() as u32, 0, 0]);
+        assert_eq!(plain(raw::merge(&sheet, &sheet, &mut out)), [0, sheet.len() as u32, 0, 0]);
+    });
+}
+
+/// As many conditions and terms as two sheets can have, all conditions alike but for the last term: the second sheet's are all repeats, or all new.
+#[test]
+fn merges_of_the_longest_sheets_fit() {
+    let ending = |number: usize| [vec![same(1, 1); 3], vec![same(number / 128 + 1, number % 128 + 1)]].concat();
+    let sheet = |from: usize| sheet_bytes(128, &(from..from + MOST_CONDITIONS).map(ending).collect::<Vec<_>>());
+    let (first, second) = (sheet(0), sheet(MOST_CONDITIONS));
+    on_stack(OTHERS, move || {
+        let mut out = vec![0; first.len()];
+        assert_eq!(plain(raw::merge(&first, &first, &mut out)), [0, first.len() as u32, 0, 0]);
+        assert_eq!(plain(raw::merge(&first, &second, &mut out)), [18, 2, 0, 0]);
     });
 }
 

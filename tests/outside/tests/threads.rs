@@ -1,6 +1,7 @@
 //! Two threads in the services at once: a call touches only what it is lent.
 use outside::case::Case;
 use outside::compare::{Repacked, Searched, plain, repacked, searched};
+use outside::merged::{Merged, merged};
 use outside::random::Random;
 use outside::sheets;
 use std::sync::Barrier;
@@ -9,8 +10,15 @@ use std::thread;
 const CASES: usize = 400;
 const ROUNDS: usize = 5;
 
-fn all(cases: &[Case]) -> Vec<(Searched, [u32; 4], Repacked)> {
-    cases.iter().map(|case| (searched(case), plain(lihumbay::raw::check(&case.sheet, &case.list)), repacked(case))).collect()
+/// What the services that search, check or write give on each case; each sheet is merged with the one before it.
+fn all(cases: &[Case]) -> Vec<(Searched, [u32; 4], Repacked, Merged)> {
+    let before = |number: usize| &cases[number.checked_sub(1).unwrap_or(CASES - 1)];
+    let one = |(number, case): (usize, &Case)| {
+        let checked = plain(lihumbay::raw::check(&case.sheet, &case.list));
+        let merged = merged(&before(number).sheet, &case.sheet, &[case.fill; 6000]);
+        (searched(case), checked, repacked(case), merged)
+    };
+    cases.iter().enumerate().map(one).collect()
 }
 
 #[test]

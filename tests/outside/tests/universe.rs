@@ -1,6 +1,7 @@
 //! Very small universes, whole: all sheets with few lots, conditions and records whose fields lie in a small range, and all short lists.
 use outside::canonical::canonical;
 use outside::case::{Case, canonical_length, probe};
+use outside::merged::{compare_merge, merged_length};
 use outside::run::{run_case, say, with_stack};
 use outside::tally::Tally;
 use outside::tree::{ground, split};
@@ -103,6 +104,30 @@ fn all_small_sheets_byte_by_byte() {
         [0, 4, 5, 6, 7, 17].iter().for_each(|&check| assert!(tally.seen("reader", check) > 100, "check {check}"));
         [0, 16].iter().for_each(|&check| assert!(tally.seen("repacker", check) > 100, "check {check}"));
     });
+}
+
+/// Each of these sheets, accepted or not, merged with one that is accepted and with one that isn't, in both orders. The output is a byte too short where the
+/// sheet's bytes have an odd sum.
+#[test]
+fn all_small_sheets_merged() {
+    let accepted = sheet_bytes_in(3, &[vec![same(1, 1)], vec![], vec![same(1, 1), same(1, 1)], vec![same(3, 2)]], &[3, 1, 4, 2]);
+    let refused = [&accepted[..6], &[9], &accepted[7..]].concat();
+    let mut checks: HashMap<[u32; 2], usize> = HashMap::new();
+    all_small_sheets(&mut |sheet| {
+        let sum: usize = sheet.iter().map(|&byte| usize::from(byte)).sum();
+        for other in [&accepted, &refused] {
+            for (first, second) in [(&sheet, other), (other, &sheet)] {
+                let before = vec![0x6B; merged_length(first, second) - sum % 2];
+                let [check, _, which, _] =
+                    compare_merge(first, second, &before).unwrap_or_else(|why| panic!("{why}\n{first:02x?}\n{second:02x?}"));
+                *checks.entry([check, if check == 0 { 0 } else { which }]).or_default() += 1;
+            }
+        }
+    });
+    say(&format!("{} merges with sheets of up to 2 lots and conditions and 3 records, byte by byte", checks.values().sum::<usize>()));
+    let seen = |check: u32, which: u32| assert!(checks.get(&[check, which]).is_some_and(|&count| count > 100), "check {check} of {which}");
+    [4, 5, 6, 7, 17].iter().for_each(|&check| [1, 2].iter().for_each(|&which| seen(check, which)));
+    [0, 19].iter().for_each(|&check| seen(check, 0));
 }
 
 /// All conditions of up to two of these terms: the one with none is withdrawn.

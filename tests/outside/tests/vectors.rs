@@ -45,6 +45,7 @@ fn called(case: &mut Case) -> raw::Numbers {
         2 => raw::check(first, second),
         3 => raw::evaluate(first, second),
         4 => raw::repack(first, second),
+        5 => raw::merge(first, second, third),
         service => panic!("there is no service {service}"),
     }
 }
