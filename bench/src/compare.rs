@@ -4,7 +4,7 @@ use crate::random::Random;
 use crate::records::{self, refused};
 use crate::repack::{self, Repack};
 use crate::sheets::{Condition, MOST_BYTES, Sheet};
-use crate::{evaluations, families, lists, read, terms};
+use crate::{evaluations, families, lists, merges, read, terms};
 use std::ops::RangeInclusive;
 
 /// Changed lists are tried where a list is shorter than this.
@@ -43,8 +43,13 @@ fn changed_lists(job: &mut Job) {
 
 /// Each bit of a sheet changed by itself, and the sheet cut at each length.
 pub fn each_change(sheet: &[u8], same: impl Fn(&[u8], &str, usize)) {
+    some_changes(sheet, 1, same);
+}
+
+/// The same at places of the sheet that are `step` bytes apart.
+pub fn some_changes(sheet: &[u8], step: usize, same: impl Fn(&[u8], &str, usize)) {
     let mut bytes = sheet.to_vec();
-    for at in 0..bytes.len() {
+    for at in (0..bytes.len()).step_by(step) {
         same(&sheet[..at], "cut at", at);
         for bit in 0..8 {
             bytes[at] ^= 1 << bit;
@@ -194,6 +199,7 @@ pub fn withdrawn_sheets() {
             changed_readings(&read);
             changed_chains(&read, i as u64);
             changed_repackings(&job_of(Service::Repack, name.clone(), &sheet, shuffled));
+            merges::of_small(&name, &sheet, &whole, shuffled);
             for given in evaluations::groupings(sheet.lots, i as u64) {
                 evaluations::changed(&Job { given, ..job_of(Service::Evaluate, name.clone(), &sheet, shuffled) });
             }
@@ -219,5 +225,6 @@ pub fn compare(job: &mut Job) {
             outputs(job, 0..=job.bytes.len() + 1);
             changed_repackings(job);
         }
+        Service::Merge => merges::changed(job),
     }
 }

@@ -3,9 +3,10 @@ use crate::cases::{self, Answer, Case};
 use crate::families;
 use crate::first_true::{self, Shape};
 use crate::lists::Joins;
+use crate::pairs::{self, Pair};
 use crate::records::{MOST, answered, refused};
 use crate::sheets::{MOST_BYTES, Sheet};
-use crate::{check, evaluate, lists, read, repack, search, slow};
+use crate::{check, evaluate, lists, merge, read, repack, search, slow};
 use lihumbay::raw::Numbers;
 
 #[derive(Clone, Copy, PartialEq, Eq)]
@@ -15,14 +16,15 @@ pub enum Service {
     Read,
     Evaluate,
     Repack,
+    Merge,
 }
 
 impl Service {
-    pub const ALL: [Service; 5] = [Service::Search, Service::Check, Service::Read, Service::Evaluate, Service::Repack];
+    pub const ALL: [Service; 6] = [Service::Search, Service::Check, Service::Read, Service::Evaluate, Service::Repack, Service::Merge];
 
     /// The service of a word that a command was given.
     pub fn named(word: &str) -> Service {
-        Service::ALL.into_iter().find(|known| known.word() == word).expect("a service: search, check, read, evaluate or repack")
+        Service::ALL.into_iter().find(|known| known.word() == word).expect("a service: search, check, read, evaluate, repack or merge")
     }
 
     pub fn word(self) -> &'static str {
@@ -32,6 +34,7 @@ impl Service {
             Service::Read => "read",
             Service::Evaluate => "evaluate",
             Service::Repack => "repack",
+            Service::Merge => "merge",
         }
     }
 
@@ -40,7 +43,7 @@ impl Service {
         match self {
             Service::Search => "node",
             Service::Check => "record",
-            Service::Read | Service::Repack => "term record",
+            Service::Read | Service::Repack | Service::Merge => "term record",
             Service::Evaluate => "condition",
         }
     }
@@ -52,6 +55,7 @@ impl Service {
             Service::Read => read::ALL.map(|(name, _)| name).into(),
             Service::Evaluate => evaluate::ALL.map(|(name, _)| name).into(),
             Service::Repack => repack::ALL.map(|(name, _)| name).into(),
+            Service::Merge => merge::ALL.map(|(name, _)| name).into(),
         }
     }
 }
@@ -61,16 +65,18 @@ pub struct Job {
     pub key: String,
     pub name: String,
     pub family: &'static str,
+    /// The sheet that a call is given; for a merge, what comes of the two.
     pub sheet: Sheet,
     pub bytes: Vec<u8>,
-    /// What a call is given beside the sheet: the list that the checker walks, the evaluator's grouping; empty for the other services.
+    /// What a call is given beside the sheet: the list that the checker walks, the evaluator's grouping, the second sheet of a merge. It is empty for the other
+    /// services, and for a merge whose first sheet is lent twice.
     pub given: Vec<u8>,
-    /// How many nodes, records of a list, term records, or conditions that are looked at.
+    /// How many nodes, records of a list, term records, those of both sheets in a merge, or conditions that are looked at.
     pub units: usize,
     pub known: Numbers,
 }
 
-/// The buffers that a search writes, and the one that a repacker writes.
+/// The buffers that a search writes, and the one that a repacker or a merger writes.
 #[derive(Clone, PartialEq, Eq)]
 pub struct Buffers {
     pub grouping: Vec<u8>,
@@ -96,7 +102,13 @@ impl Job {
             Service::Read => read::ALL[contender].1(&self.bytes),
             Service::Evaluate => evaluate::ALL[contender].1(&self.bytes, &self.given),
             Service::Repack => repack::ALL[contender].1(&self.bytes, &mut buffers.out),
+            Service::Merge => merge::ALL[contender].1(&self.bytes, self.second(), &mut buffers.out),
         }
+    }
+
+    /// The second sheet of a merge.
+    pub fn second(&self) -> &[u8] {
+        if self.given.is_empty() { &self.bytes } else { &self.given }
     }
 
     pub fn answer(&self) -> &'static str {
@@ -109,6 +121,8 @@ impl Job {
             (Service::Evaluate, _, 0) => "all met",
             (Service::Evaluate, _, _) => "unmet",
             (Service::Repack, _, _) => "packed",
+            (Service::Merge, 0, _) => "merged",
+            (Service::Merge, _, _) => "refused",
         }
     }
 }
@@ -227,6 +241,26 @@ fn evaluate_job(shape: Shape) -> Job {
     }
 }
 
+/// What a merger answers, by the sheet that comes of the two.
+fn merge_answer(merged: &Sheet) -> Numbers {
+    if merged.conditions.len() > 256 {
+        return refused(18, 2);
+    }
+    if merged.records() > 1024 { refused(18, 3) } else { packed_length(merged) }
+}
+
+/// The merge of two sheets whose bytes are given, none for the second where the first is lent twice.
+pub fn merge_job(key: String, name: String, sheets: &[Sheet; 2], [bytes, given]: [Vec<u8>; 2]) -> Job {
+    let sheet = pairs::merged(sheets);
+    let (units, known) = (sheets.iter().map(Sheet::records).sum(), merge_answer(&sheet));
+    Job { service: Service::Merge, key, name, family: "pair", sheet, bytes, given, units, known }
+}
+
+fn pair_job(pair: Pair) -> Job {
+    let sheets = (pair.sheets)();
+    merge_job(pair.key.into(), pair.name.into(), &sheets, pair.bytes(&sheets))
+}
+
 /// The jobs of a service whose key is wanted.
 pub fn of(service: Service, wanted: &dyn Fn(&str) -> bool) -> Vec<Job> {
     let jobs = match service {
@@ -235,6 +269,7 @@ pub fn of(service: Service, wanted: &dyn Fn(&str) -> bool) -> Vec<Job> {
         Service::Read => sheet_jobs(service, counts),
         Service::Evaluate => first_true::rows().into_iter().map(evaluate_job).collect(),
         Service::Repack => sheet_jobs(service, packed_length),
+        Service::Merge => pairs::rows().into_iter().filter(|pair| wanted(pair.key)).map(pair_job).collect(),
     };
     jobs.into_iter().filter(|job| wanted(&job.key)).collect()
 }

@@ -2,7 +2,7 @@
 use crate::jobs::{self, Buffers, Job, Service};
 use crate::rounds::{self, Plan};
 use crate::rows::{self, Row};
-use crate::{compare, instructions, places, plots, sizes, stack, tables, z3};
+use crate::{compare, instructions, merges, places, plots, sizes, stack, tables, z3};
 use std::fs;
 use std::hint::black_box;
 use std::path::{Path, PathBuf};
@@ -33,11 +33,17 @@ fn compared(service: Service) -> impl Iterator<Item = Job> {
     })
 }
 
-pub fn compare_all() {
+/// All that is compared beside the jobs.
+fn compare_others() {
     compare::withdrawn_sheets();
     compare::random_sheets();
+    merges::random_pairs();
+}
+
+pub fn compare_all() {
+    compare_others();
     let count = Service::ALL.into_iter().flat_map(compared).count();
-    println!("{count} inputs, 33 small and 100 random sheets: all contenders agree");
+    println!("{count} inputs, 33 small and 100 random sheets, 100 random pairs of sheets: all contenders agree");
 }
 
 /// Times the contenders of a job in turns.
@@ -143,8 +149,7 @@ fn machine() -> String {
 
 pub fn measure(plan: Plan) {
     let machine = machine();
-    compare::withdrawn_sheets();
-    compare::random_sheets();
+    compare_others();
     let rows: Vec<Row> = Service::ALL.into_iter().flat_map(|service| measure_service(plan, service)).collect();
     save("machine.txt", &format!("{} rounds of {} s; {machine}", plan.rounds, plan.batch));
     save("times.tsv", &rows::write(&rows));
@@ -189,6 +194,8 @@ pub fn write() {
         ("places", tables::plain(&load("places.tsv"))),
         ("repack times", tables::times(&rows, "repack", "Term record")),
         ("repack instructions", tables::instructions(&rows, "repack")),
+        ("merge times", tables::times(&rows, "merge", "Term record")),
+        ("merge instructions", tables::instructions(&rows, "merge")),
         ("z3", tables::plain(&load("z3.tsv"))),
         ("stack", tables::plain(&load("stack.tsv"))),
     ];

@@ -11,7 +11,7 @@ pub enum Sign {
 }
 
 /// A term over lots that count from 1.
-#[derive(Clone, Copy, Debug)]
+#[derive(Clone, Copy, Debug, PartialEq, Eq)]
 pub struct Term {
     pub sign: Sign,
     pub a: usize,

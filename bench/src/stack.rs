@@ -1,9 +1,10 @@
-//! How much stack a search takes on the longest path that it can have, 1,023 splits, a check on the longest that a list can have, 1,024, and an evaluation and
-//! a repacking on the longest chain: the call runs on a painted stack of 8 MB, and what was painted over is counted.
+//! How much stack a search takes on the longest path that it can have, 1,023 splits, a check on the longest that a list can have, 1,024, an evaluation and a
+//! repacking on the longest chain, and a merge on as many conditions as can come in and stay, all of one digest: the call runs on a painted stack of 8 MB, and
+//! what was painted over is counted.
 use crate::first_true::{self, Shape};
-use crate::jobs::{Buffers, packed_length};
+use crate::jobs::{self, Buffers, Service, packed_length};
 use crate::records::answered;
-use crate::{check, evaluate, families, lists, repack, search};
+use crate::{check, evaluate, families, lists, merge, repack, search};
 use std::alloc::{Layout, alloc, dealloc};
 use std::ffi::c_void;
 use std::hint::black_box;
@@ -52,7 +53,18 @@ fn used(call: &mut dyn FnMut()) -> usize {
     }
 }
 
-/// The stack of each search, checker, evaluator and repacker, by name.
+/// The stack of each merger, by name.
+fn of_merges(thread: usize) -> Vec<(String, usize)> {
+    let job = jobs::one(Service::Merge, "digest").expect("a merge of one digest");
+    let one = |(name, merge): (&str, merge::Merge)| {
+        let mut out = Buffers::new().out;
+        let bytes = used(&mut || assert!(merge(&job.bytes, job.second(), &mut out) == job.known));
+        (format!("merge, {name}"), bytes - thread)
+    };
+    merge::ALL.map(one).into()
+}
+
+/// The stack of each search, checker, evaluator, repacker and merger, by name.
 pub fn all() -> Vec<(String, usize)> {
     let thread = used(&mut || {});
     let (sheet, list) = (families::long_condition(1023).bytes(), lists::deep(127));
@@ -78,6 +90,7 @@ pub fn all() -> Vec<(String, usize)> {
         let bytes = used(&mut || assert!(repack(&mixed, &mut out) == packed));
         rows.push((format!("repack, {name}"), bytes - thread));
     }
+    rows.extend(of_merges(thread));
     rows
 }
 

@@ -10,7 +10,7 @@ pub fn header(sheet: &[u8]) -> (usize, usize, usize) {
 }
 
 /// A term over lots that count from 0.
-#[derive(Clone, Copy)]
+#[derive(Clone, Copy, PartialEq, Eq)]
 pub struct Term {
     pub same: bool,
     pub a: u8,

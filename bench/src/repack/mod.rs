@@ -1,5 +1,5 @@
 //! The repackers that are compared.
-mod plain;
+pub mod plain;
 mod tuned;
 
 use lihumbay::raw::Numbers;

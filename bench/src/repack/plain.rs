@@ -15,18 +15,21 @@ fn put_record(out: &mut [u8], at: usize, term: &Term, next: usize) {
     put(out, at + 6, next);
 }
 
-pub fn repack(sheet: &[u8], out: &mut [u8]) -> Numbers {
-    let (lots, conditions, _) = terms::header(sheet);
-    let conditions: Vec<Vec<Term>> = (0..conditions).map(|c| terms::chain(sheet, c).collect()).collect();
-    let count = conditions.iter().map(Vec::len).sum();
-    let records = 6 + 2 * conditions.len();
-    let length = records + 8 * count;
-    if out.len() < length {
-        return refused(16, length);
-    }
-    for (i, number) in [lots, conditions.len(), count].into_iter().enumerate() {
+fn count(conditions: &[Vec<Term>]) -> usize {
+    conditions.iter().map(Vec::len).sum()
+}
+
+/// The bytes of the packed sheet.
+pub fn packed_length(conditions: &[Vec<Term>]) -> usize {
+    6 + 2 * conditions.len() + 8 * count(conditions)
+}
+
+/// Writes the packed sheet to an output that is long enough.
+pub fn write(lots: usize, conditions: &[Vec<Term>], out: &mut [u8]) {
+    for (i, number) in [lots, conditions.len(), count(conditions)].into_iter().enumerate() {
         put(out, 2 * i, number);
     }
+    let records = 6 + 2 * conditions.len();
     let mut written = 0;
     for (c, condition) in conditions.iter().enumerate() {
         put(out, 6 + 2 * c, if condition.is_empty() { 0 } else { written + 1 });
@@ -36,5 +39,15 @@ pub fn repack(sheet: &[u8], out: &mut [u8]) -> Numbers {
             written += 1;
         }
     }
+}
+
+pub fn repack(sheet: &[u8], out: &mut [u8]) -> Numbers {
+    let (lots, conditions, _) = terms::header(sheet);
+    let conditions: Vec<Vec<Term>> = (0..conditions).map(|c| terms::chain(sheet, c).collect()).collect();
+    let length = packed_length(&conditions);
+    if out.len() < length {
+        return refused(16, length);
+    }
+    write(lots, &conditions, out);
     answered(length as u32, 0, 0)
 }
