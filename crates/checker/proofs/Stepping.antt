@@ -7,7 +7,7 @@ use native.Mathlib.Numerals.{add-one}
 use borrow.Author.Tests.{eq-eqb, ne-eqb, le-leb, lt-leb}
 use lib.Dec.{leb}
 use lib.ListN.{length}
-use Rattle.sheet.specs.Format.{lotCount, conditionCount}
+use Rattle.sheet.specs.Format.{lowestLot, lotCount, conditionCount}
 use Rattle.sheet.specs.Checks.{lotInRange}
 use Rattle.sheet.specs.Conditions.{same}
 use Rattle.sheet.specs.declared.Verdict.{Verdict}
@@ -65,16 +65,16 @@ module _ (walkRest : ℕ → List Split → Verdict) (rest : List NodeRecord) (f
 
 module _ (s : List ℕ) (walkRest : ℕ → List Split → Verdict) (rest : List NodeRecord) (r : ℕ) (above : List Split) (a b next : ℕ) where
   abbrev pub AtSplit : Verdict → Type 0
-  AtSplit v = walkRecord s walkRest rest r above (splitRecord a b next) ≡ v
+  AtSplit v = walkRecord lowestLot s walkRest rest r above (splitRecord a b next) ≡ v
 
   -- A lot is none of the sheet's,
-  pub first-out : lotInRange (lotCount s) a ≡ false → AtSplit (Refuses 11 r)
+  pub first-out : lotInRange lowestLot (lotCount s) a ≡ false → AtSplit (Refuses 11 r)
   first-out e = simp e
 
-  pub second-out : lotInRange (lotCount s) a ≡ true → lotInRange (lotCount s) b ≡ false → AtSplit (Refuses 11 r)
+  pub second-out : lotInRange lowestLot (lotCount s) a ≡ true → lotInRange lowestLot (lotCount s) b ≡ false → AtSplit (Refuses 11 r)
   second-out e f = simp (e, f)
 
-  module _ (first : lotInRange (lotCount s) a ≡ true) (second : lotInRange (lotCount s) b ≡ true) where
+  module _ (first : lotInRange lowestLot (lotCount s) a ≡ true) (second : lotInRange lowestLot (lotCount s) b ≡ true) where
     -- too many splits stand above it,
     pub too-deep : mostSplits ≤ length above → AtSplit (Refuses 15 r)
     too-deep h = simp (first, second, le-leb mostSplits (length above) h)
@@ -91,7 +91,7 @@ module _ (s : List ℕ) (walkRest : ℕ → List Split → Verdict) (rest : List
 
 module _ (s : List ℕ) (walkRest : ℕ → List Split → Verdict) (rest : List NodeRecord) (r : ℕ) (above : List Split) (c : ℕ) where
   abbrev pub AtGround : Verdict → Type 0
-  AtGround v = walkRecord s walkRest rest r above (groundRecord c) ≡ v
+  AtGround v = walkRecord lowestLot s walkRest rest r above (groundRecord c) ≡ v
 
   -- Its condition is none of the sheet's,
   pub condition-out : conditionInRange s c ≡ false → AtGround (Refuses 11 r)

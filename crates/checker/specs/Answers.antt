@@ -18,6 +18,6 @@ checkedAnswer (Refused check place) = refused check place
 abbrev pub PassedExactly : CheckAnswer → List ℕ → List ℕ → Type 0
 PassedExactly r s list = checkedAnswer r ≡ answered 0 0 0 ↔ Refutes s list
 
--- What passes proves that nobody can meet the sheet, whatever the list and from whichever hand.
+-- What passes proves that nobody can meet the sheet, whichever number they give lot 0, whatever the list and from whichever hand.
 abbrev pub PassedMeans : CheckAnswer → List ℕ → Type 0
 PassedMeans r s = checkedAnswer r ≡ answered 0 0 0 → (f : ℕ → ℕ) → ¬ Meets f s

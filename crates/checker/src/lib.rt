@@ -4,7 +4,7 @@ ghost use mathlib.Core.Bool.{not, _||_};
 ghost use Prim.Native.Nat.{ℕ, _+_, _*_, _/_, _%_, _≤_, _<_};
 ghost use lib.Dec.{ltb, eqb};
 ghost use lib.ListN.{length};
-ghost use Rattle.sheet.specs.Format.{mostLots, sameSign, lotCount};
+ghost use Rattle.sheet.specs.Format.{lowestLot, mostLots, sameSign, lotCount};
 ghost use Rattle.sheet.specs.Inner.{HasConditions, OnChain};
 ghost use Rattle.sheet.specs.Conditions.{termsFrom};
 ghost use Rattle.equality.specs.Meaning.{anyTerm};
@@ -231,7 +231,7 @@ fn split_step(
 ) -> Step
     requires { ⌜ Walkable (now path) (now maps) (now levels) depth × (n ≤ mostLots) ⌝ }
     ensures walk { λ v. ⌜ ((s : List ℕ) → n ≡ lotCount s → (walkRest : WalkRest) (rest : Rest)
-        → walkRecord s walkRest rest (split .number .0) (pathOf (now (path .entry)) depth) (splitRecord (split .a .0) (split .b .0) (split .next .0))
+        → walkRecord lowestLot s walkRest rest (split .number .0) (pathOf (now (path .entry)) depth) (splitRecord (split .a .0) (split .b .0) (split .next .0))
         ≡ stepAs walkRest (split .number .0 + 1) (now (path .exit)) v) ⌝ }
     ensures path { λ v. ⌜ GoesOn (now (path .exit)) (now (maps .exit)) (now (levels .exit)) v ⌝ }
 {
@@ -260,7 +260,7 @@ fn ground_step(
 ) -> Step
     requires { ⌜ HasConditions (now sheet) m × Walkable (now path) (now maps) (now levels) (at .depth) × (at .number ≤ mostNodes) × Room (now table) 0 ⌝ }
     ensures walk { λ v. ⌜ ((walkRest : WalkRest) (rest : Rest) → at .last ≡ noneLeft rest
-        → walkRecord (now (sheet .entry)) walkRest rest (at .number) (pathOf (now (path .entry)) (at .depth)) (groundRecord (c .0))
+        → walkRecord lowestLot (now (sheet .entry)) walkRest rest (at .number) (pathOf (now (path .entry)) (at .depth)) (groundRecord (c .0))
         ≡ stepAs walkRest (at .number + 1) (now (path .exit)) v) ⌝ }
     ensures path { λ v. ⌜ GoesOn (now (path .exit)) (now (maps .entry)) (now (levels .exit)) v ⌝ }
 {
@@ -286,7 +286,7 @@ fn record_step(
 ) -> Step
     requires { ⌜ Counted (now sheet) counts × HasPlace (now list) (at .number) × Walkable (now path) (now maps) (now levels) (at .depth) × (at .number ≤ mostNodes) × Room (now table) 0 ⌝ }
     ensures walk { λ v. ⌜ ((walkRest : WalkRest) (rest : Rest) → at .last ≡ noneLeft rest
-        → walkRecord (now (sheet .entry)) walkRest rest (at .number) (pathOf (now (path .entry)) (at .depth)) (recordAt (now (list .entry)) (at .number))
+        → walkRecord lowestLot (now (sheet .entry)) walkRest rest (at .number) (pathOf (now (path .entry)) (at .depth)) (recordAt (now (list .entry)) (at .number))
         ≡ stepAs walkRest (at .number + 1) (now (path .exit)) v) ⌝ }
     ensures path { λ v. ⌜ GoesOn (now (path .exit)) (now (maps .exit)) (now (levels .exit)) v ⌝ }
 {
@@ -323,7 +323,7 @@ fn walk(
     table: &mut [u8],
 ) -> Verdict
     requires { ⌜ Counted (now sheet) counts × (length (now list) / recordLength ≤ mostNodes) × Walkable (now path) (now maps) (now levels) 0 × Room (now table) 0 ⌝ }
-    ensures { λ v. ⌜ v ≡ walkVerdict (now (sheet .entry)) (now (list .entry)) ⌝ }
+    ensures { λ v. ⌜ v ≡ walkVerdict lowestLot (now (sheet .entry)) (now (list .entry)) ⌝ }
 {
     let count = (list.len() / store::RECORD_LENGTH) as u32;
     let mut depth: usize = 0;
@@ -350,7 +350,7 @@ fn walk(
 // The verdict on a list, with a path, its classes and a table of its own.
 fn check_list(sheet: &[u8], counts: Header, list: &[u8]) -> Verdict
     requires { ⌜ Counted (now sheet) counts × (length (now list) / recordLength ≤ mostNodes) ⌝ }
-    ensures { λ v. ⌜ v ≡ walkVerdict (now (sheet .entry)) (now (list .entry)) ⌝ }
+    ensures { λ v. ⌜ v ≡ walkVerdict lowestLot (now (sheet .entry)) (now (list .entry)) ⌝ }
 {
     let mut path = [0u32; PATH_LENGTH];
     let mut maps = [0u8; levels::MAPS_LENGTH];

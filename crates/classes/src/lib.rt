@@ -57,9 +57,11 @@ fn joined(x: u8, y: u8, z: u8) -> u8
     z
 }
 
-// The classes x and y become one: every lot of both gets the smaller of the two numbers. The entries are lent, wherever a map is kept.
+// The classes x and y become one: every lot of both gets the smaller of the two numbers. A class that is known by 0 stays so, and no other lot is as small: lot
+// 0's class is known by 0 on every path. The entries are lent, wherever a map is kept.
 pub fn join_entries(lots: &mut [u8], x: u8, y: u8)
-    ensures { λ _. ⌜ now (lots .exit) ≡ merged x y (now (lots .entry)) ⌝ }
+    ensures joined { λ _. ⌜ now (lots .exit) ≡ merged x y (now (lots .entry)) ⌝ }
+    ensures zero { λ _. ⌜ (classOf (now (lots .entry)) 0 ≡ 0 → classOf (now (lots .exit)) 0 ≡ 0) ⌝ }
 {
     let mut i: usize = 0;
     while i < lots.len() {
@@ -95,10 +97,11 @@ impl Classes {
         Classes { lots }
     }
 
-    // The classes of a and b become one.
+    // The classes of a and b become one. Where lot 0's is known by 0, it stays so.
     pub fn join(self, a: Lot, b: Lot) -> Classes
         requires { ⌜ (a .0 ≤ mostLots) × (b .0 ≤ mostLots) ⌝ }
-        ensures { λ r. ⌜ r .lots ≡ merged (classOf (self .lots) (a .0)) (classOf (self .lots) (b .0)) (self .lots) ⌝ }
+        ensures joined { λ r. ⌜ r .lots ≡ merged (classOf (self .lots) (a .0)) (classOf (self .lots) (b .0)) (self .lots) ⌝ }
+        ensures zero { λ r. ⌜ (classOf (self .lots) 0 ≡ 0 → classOf (r .lots) 0 ≡ 0) ⌝ }
     {
         let first = a.0 as usize;
         let second = b.0 as usize;

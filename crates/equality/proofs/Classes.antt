@@ -13,7 +13,7 @@ use Rattle.sheet.specs.Conditions.{Term, same, apart, countUp}
 use Rattle.buffers.specs.Lists.{All}
 use Rattle.sheet.proofs.Ranges.{length-countUp}
 use Rattle.equality.specs.Meaning.{Holds}
-use Rattle.equality.specs.Node.{Decisions, Respects, merged, classes, smallestLot, share, between, marked, markedApart, Value, isTrue, isFalse, isOpen, value}
+use Rattle.equality.specs.Node.{Decisions, Respects, merged, classOf, classes, smallestLot, share, between, marked, markedApart, Value, isTrue, isFalse, isOpen, value}
 use Rattle.equality.specs.Opens.{Small}
 use Rattle.equality.proofs.Tests.{or-cases, and-true-both}
 
@@ -42,6 +42,11 @@ joined-zero x y = go (eqb 0 x) (eqb 0 y) refl refl
     go true q ex ey = omega (arith, eqb-true 0 x ex)
     go false true ex ey = omega (arith, eqb-true 0 y ey)
     go false false ex ey = refl
+
+-- So lot 0's class, where it is known by 0, stays so whichever two are joined.
+pub merged-zero : (x y : ℕ) (cs : List ℕ) → classOf cs 0 ≡ 0 → classOf (merged x y cs) 0 ≡ 0
+unfolding merged
+merged-zero x y cs e = getD-map _ (joined-zero x y) cs 0 ∙ ap (joinedTo x y) e ∙ joined-zero x y
 
 -- A lot's class after a pair is set same, and after a pair is set apart. A number that is no lot counts as class 0.
 pub same-class : (ds : Decisions) (a b lot : ℕ)

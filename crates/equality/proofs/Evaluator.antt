@@ -9,9 +9,19 @@ use borrow.Author.Tests.{eqb-true, eqb-false}
 use lib.Dec.{eqb}
 use lib.ListN.{length, getD}
 use Rattle.sheet.specs.Conditions.{Term}
-use Rattle.equality.specs.Meaning.{MeetsAll, meetsCondition, meetsAll}
-use Rattle.equality.specs.Evaluator.{lowestUnmet}
+use Rattle.equality.specs.Meaning.{MeetsAll, Assignment, CanBeMet, meetsCondition, meetsAll}
+use Rattle.equality.specs.Evaluator.{numberIn, GroupingMeets, lowestUnmet}
 use Rattle.equality.proofs.Meaning.{all-decides}
+
+-- ---- the numbers that it reads
+
+-- Lot 0 has the number 0 there, whatever the bytes are: they are an assignment,
+pub grouping-assigns : (grouping : List ℕ) → Assignment (numberIn grouping)
+grouping-assigns grouping = refl
+
+-- so that a sheet which a grouping meets can be met.
+pub grouping-can : (grouping s : List ℕ) → GroupingMeets grouping s → CanBeMet s
+grouping-can grouping s meets′ = (numberIn grouping, grouping-assigns grouping, meets′)
 
 -- ---- 0 exactly where all conditions are met
 

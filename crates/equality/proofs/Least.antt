@@ -33,6 +33,10 @@ least [] lot = no-least lot
 least (same a b ∷ ds) lot = omega (arith, same-class ds a b lot, joined-least (smallestLot ds a) (smallestLot ds b) (smallestLot ds lot), least ds lot)
 least (apart a b ∷ ds) lot = omega (arith, apart-class ds a b lot, least ds lot)
 
+-- so the class of lot 0 is known by 0, under all decisions;
+pub zero-class : (ds : Decisions) → smallestLot ds 0 ≡ 0
+zero-class ds = omega (arith, least ds 0)
+
 -- and it is in the class.
 joined-either : (x y z : ℕ) → (joinedTo x y z ≡ z) ⊎ ((joinedTo x y z ≡ x) ⊎ (joinedTo x y z ≡ y))
 joined-either x y z = go (eqb z x || eqb z y)

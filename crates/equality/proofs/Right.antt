@@ -8,13 +8,14 @@ use mathlib.Core.Path.{_≡_, refl, sym, _∙_}
 use native.Mathlib.Decide.{ℕ-discrete}
 use Rattle.sheet.specs.Conditions.{Term}
 use Rattle.buffers.specs.Lists.{All}
-use Rattle.equality.specs.Meaning.{Holds, someTerm, MeetsCondition, MeetsAll, meetsAll}
+use Rattle.equality.specs.Meaning.{Holds, someTerm, MeetsCondition, MeetsAll, Assignment, meetsAll}
 use Rattle.equality.specs.Node.{Decisions, Respects, smallestLot, isFalse, value, trueOrOpenApart, passedOver}
 use Rattle.equality.specs.Search.{Tree, isMet, metDecisions, nodeRule, searchTree}
 use Rattle.equality.proofs.Meaning.{all-decides}
 use Rattle.equality.proofs.Some.{none-some}
 use Rattle.equality.specs.Opens.{Small}
 use Rattle.equality.proofs.Classes.{Says, value-says}
+use Rattle.equality.proofs.Least.{zero-class}
 use Rattle.equality.proofs.Node.{passed-by-classes}
 use Rattle.equality.proofs.Rule.{GroundAt, met-passed, ground-at, ground-false, split-at}
 use Rattle.buffers.proofs.Lists.{all-two, all-at}
@@ -81,11 +82,16 @@ module _ (tss : List (List Term)) (smalls : All (All Small) tss) where
   unfolding Respects
   search-cannot m decide f = cannot-under decide f tss smalls (search-visits tss) m tt tt
 
-  -- So the search meets a node exactly when some assignment into the naturals meets the conditions.
-  pub search-decides : isMet (searchTree tss) ≡ true ↔ (f : ℕ → ℕ) × MeetsAll f tss
-  search-decides =
-      ((λ m. (smallestLot (metDecisions (searchTree tss)), all-decides _ tss .0 (search-met m))), (λ h. go (isMet (searchTree tss)) refl h))
+  -- So the search meets a node where any assignment meets the conditions, whichever value lot 0 has,
+  pub any-met : {A : Type 0} → ((x y : A) → Dec (x ≡ y)) → (f : ℕ → A) → MeetsAll f tss → isMet (searchTree tss) ≡ true
+  any-met decide f meets′ = go (isMet (searchTree tss)) refl
     where
-      go : (m : Bool) → isMet (searchTree tss) ≡ m → (f : ℕ → ℕ) × MeetsAll f tss → m ≡ true
-      go true e h = refl
-      go false e h = absurd (search-cannot e ℕ-discrete (h .0) (h .1))
+      go : (m : Bool) → isMet (searchTree tss) ≡ m → m ≡ true
+      go true e = refl
+      go false e = absurd (search-cannot e decide f meets′)
+
+  -- and exactly when one into the naturals does that gives lot 0 the number 0.
+  pub search-decides : isMet (searchTree tss) ≡ true ↔ (f : ℕ → ℕ) × Assignment f × MeetsAll f tss
+  search-decides =
+      let found = metDecisions (searchTree tss) in
+      ((λ m. (smallestLot found, zero-class found, all-decides _ tss .0 (search-met m))), (λ h. any-met ℕ-discrete (h .0) (h .2)))

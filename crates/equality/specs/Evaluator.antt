@@ -1,13 +1,13 @@
 -- The evaluator (document 01, "The grouping judge").
-use Prim.Native.Nat.{ℕ, suc, _-_}
+use Prim.Native.Nat.{ℕ, zero, suc}
 use mathlib.Core.Bool.{cond}
 use mathlib.Core.List.{List, [], _∷_, _++_}
 use lib.Dec.{ltb}
 use lib.ListN.{length, getD}
 use Rattle.sheet.specs.declared.Verdict.{Verdict}
-use Rattle.sheet.specs.Format.{lotCount}
+use Rattle.sheet.specs.Format.{lowestLot, lotCount}
 use Rattle.sheet.specs.Conditions.{Term, conditions}
-use Rattle.sheet.specs.Checks.{refusesIf, firstRefusal, sheetChecks}
+use Rattle.sheet.specs.Checks.{refusesIf, firstRefusal, sheetChecksFrom}
 use Rattle.sheet.specs.Answers.{Answer, answered, answerOf}
 use Rattle.equality.specs.Meaning.{Meets, meetsCondition}
 
@@ -15,13 +15,21 @@ use Rattle.equality.specs.Meaning.{Meets, meetsCondition}
 unfoldable pub check8 : List ℕ → List ℕ → Verdict
 check8 s grouping = refusesIf (ltb (length grouping) (lotCount s)) 8 (lotCount s)
 
--- The first of the checks that a call with a grouping can fail before anything is tried.
-unfoldable pub groupingVerdict : List ℕ → List ℕ → Verdict
-groupingVerdict s grouping = firstRefusal (sheetChecks s ++ check8 s grouping ∷ [])
+-- The first of the checks that a call with a grouping can fail before anything is tried: where lots count from `lowest`, and as they do.
+unfoldable pub groupingVerdictFrom : ℕ → List ℕ → List ℕ → Verdict
+groupingVerdictFrom lowest s grouping = firstRefusal (sheetChecksFrom lowest s ++ check8 s grouping ∷ [])
 
--- "values 0 to 255, lot i having byte i − 1 as its number": a lot's number in a grouping.
+abbrev pub groupingVerdict : List ℕ → List ℕ → Verdict
+groupingVerdict s grouping = groupingVerdictFrom lowestLot s grouping
+
+-- "values 0 to 255, lot i having byte i − 1 as its number": a lot's number in a grouping, where lot 0 has the number `held`;
+abbrev pub numberWith : ℕ → List ℕ → ℕ → ℕ
+numberWith held grouping zero = held
+numberWith held grouping (suc i) = getD grouping i 0
+
+-- of lot 0, "its number is 0 in every numbering and in the judge" (document 02).
 abbrev pub numberIn : List ℕ → ℕ → ℕ
-numberIn grouping lot = getD grouping (lot - 1) 0
+numberIn grouping lot = numberWith 0 grouping lot
 
 -- "A grouping meets a sheet when the numbers that the judge reads from it do."
 abbrev pub GroupingMeets : List ℕ → List ℕ → Type 0
@@ -32,8 +40,11 @@ unfoldable pub lowestUnmet : (ℕ → ℕ) → ℕ → List (List Term) → ℕ
 lowestUnmet f c [] = 0
 lowestUnmet f c (ts ∷ tss) = cond (meetsCondition f ts) (lowestUnmet f (suc c) tss) c
 
--- The evaluator's answer, from a sheet's bytes and a grouping.
-unfoldable pub evaluateAnswer : List ℕ → List ℕ → Answer
-evaluateAnswer s grouping =
-    answerOf (groupingVerdict s grouping)
-    (answered (lowestUnmet (numberIn grouping) 1 (conditions s)) 0 0)
+-- The evaluator's answer, from a sheet's bytes and a grouping: where lots count from `lowest` and lot 0 has the number `held`, and as it is.
+unfoldable pub evaluateAnswerFrom : ℕ → ℕ → List ℕ → List ℕ → Answer
+evaluateAnswerFrom lowest held s grouping =
+    answerOf (groupingVerdictFrom lowest s grouping)
+    (answered (lowestUnmet (numberWith held grouping) 1 (conditions s)) 0 0)
+
+abbrev pub evaluateAnswer : List ℕ → List ℕ → Answer
+evaluateAnswer s grouping = evaluateAnswerFrom lowestLot 0 s grouping

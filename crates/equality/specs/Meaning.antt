@@ -50,6 +50,20 @@ MeetsAll f tss = All (MeetsCondition f) tss
 abbrev pub Meets : {A : Type 0} → (ℕ → A) → List ℕ → Type 0
 Meets f s = MeetsAll f (conditions s)
 
+-- ---- assignments into the naturals
+
+-- "A numbering gives each lot a whole number", and of lot 0 "its number is 0 in every numbering" (document 02): the assignments that promises speak of.
+abbrev pub Assignment : (ℕ → ℕ) → Type 0
+Assignment f = f 0 ≡ 0
+
+-- Some assignment meets the sheet;
+abbrev pub CanBeMet : List ℕ → Type 0
+CanBeMet s = (f : ℕ → ℕ) × Assignment f × Meets f s
+
+-- none does.
+abbrev pub CannotBeMet : List ℕ → Type 0
+CannotBeMet s = (f : ℕ → ℕ) → Assignment f → ¬ Meets f s
+
 -- ---- the same, computed, for assignments into the naturals
 
 abbrev pub holds : (ℕ → ℕ) → Term → Bool

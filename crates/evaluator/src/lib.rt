@@ -21,18 +21,21 @@ pub enum Evaluation {
     Refused { check: u32, place: u32 },
 }
 
-// A lot's number in a grouping.
+// A lot's number in a grouping: lot 0 has none of its bytes.
 fn number_in(grouping: &[u8], lot: Lot) -> u8
-    requires { ⌜ (1 ≤ lot .0) × (lot .0 ≤ length (now grouping)) ⌝ }
+    requires { ⌜ lot .0 ≤ length (now grouping) ⌝ }
     ensures { λ r. ⌜ r ≡ numberIn (now (grouping .entry)) (lot .0) ⌝ }
 {
+    if lot.0 == 0 {
+        return 0;
+    }
     let i = (lot.0 - 1) as usize;
     grouping[i]
 }
 
 // Whether a term is true.
 fn is_true(grouping: &[u8], t: Term) -> bool
-    requires { ⌜ (1 ≤ t .a .0) × (t .a .0 ≤ length (now grouping)) × (1 ≤ t .b .0) × (t .b .0 ≤ length (now grouping)) ⌝ }
+    requires { ⌜ (t .a .0 ≤ length (now grouping)) × (t .b .0 ≤ length (now grouping)) ⌝ }
     ensures { λ r. ⌜ r ≡ holds (numberIn (now (grouping .entry))) (termOf (t .sign) (t .a .0) (t .b .0)) ⌝ }
 {
     let same = number_in(grouping, t.a) == number_in(grouping, t.b);

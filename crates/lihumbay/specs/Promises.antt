@@ -8,11 +8,12 @@ use Rattle.sheet.specs.declared.Verdict.the-variants.{Passes}
 use Rattle.sheet.specs.Checks.{Accepted}
 use Rattle.sheet.specs.Conditions.{conditions}
 use Rattle.sheet.specs.Answers.{answered}
-use Rattle.equality.specs.Meaning.{Meets}
+use Rattle.equality.specs.Meaning.{Meets, CanBeMet, CannotBeMet}
 use Rattle.equality.specs.Search.{searchTree, nodeCount, branching}
 use Rattle.equality.specs.Evaluator.{groupingVerdict, GroupingMeets}
 use Rattle.evaluator.specs.Answers.{Evaluated}
 use Rattle.store.specs.Records.{recordLength, capacity}
+use Rattle.outcome.specs.Outcome.{ZeroGroup}
 use Rattle.refutation.specs.Refutation.{Refutes}
 use Rattle.lihumbay.specs.declared.Numbers.{Numbers}
 
@@ -24,17 +25,25 @@ ZeroExactly r s = r .check ≡ 0 ↔ Accepted s
 abbrev pub NineExactly : Numbers → List ℕ → List ℕ → List ℕ → Type 0
 NineExactly r s grouping store = r .check ≡ 9 ↔ (groupingVerdict s grouping ≡ Passes) × (capacity store < nodeCount (searchTree (conditions s)))
 
--- Of a search that was not refused: 1 exactly when somebody could give the lots whole numbers that meet every condition,
+-- Of a search that was not refused: 1 exactly when somebody could give the lots whole numbers, 0 to lot 0, that meet every condition,
 abbrev pub OneExactly : Numbers → List ℕ → Type 0
-OneExactly r s = r .check ≡ 0 → (r .first ≡ 1 ↔ (f : ℕ → ℕ) × Meets f s)
+OneExactly r s = r .check ≡ 0 → (r .first ≡ 1 ↔ CanBeMet s)
 
--- and then the grouping as it is at exit meets them;
+-- and then the grouping as it is at exit meets them,
 abbrev pub OneMeets : Numbers → List ℕ → List ℕ → Type 0
 OneMeets r s grouping′ = r .check ≡ 0 → r .first ≡ 1 → GroupingMeets grouping′ s
 
+-- and a lot's number there is 0 exactly when the lot is in lot 0's class;
+abbrev pub OneZero : Numbers → List ℕ → List ℕ → Type 0
+OneZero r s grouping′ = r .check ≡ 0 → r .first ≡ 1 → ZeroGroup s grouping′
+
 -- 2 exactly when nobody could,
 abbrev pub TwoExactly : Numbers → List ℕ → Type 0
-TwoExactly r s = r .check ≡ 0 → (r .first ≡ 2 ↔ ((f : ℕ → ℕ) → ¬ Meets f s))
+TwoExactly r s = r .check ≡ 0 → (r .first ≡ 2 ↔ CannotBeMet s)
+
+-- whichever number they gave lot 0,
+abbrev pub TwoWhichever : Numbers → List ℕ → Type 0
+TwoWhichever r s = r .check ≡ 0 → r .first ≡ 2 → (f : ℕ → ℕ) → ¬ Meets f s
 
 -- and then the counted records of the store as it is at exit are a refutation.
 abbrev pub TwoRefutes : Numbers → List ℕ → List ℕ → Type 0
@@ -52,7 +61,7 @@ FirstUnmet r s grouping = r .check ≡ 0 → Evaluated (answered (r .first) (r .
 abbrev pub ZeroPassed : Numbers → List ℕ → List ℕ → Type 0
 ZeroPassed r s list = r .check ≡ 0 ↔ Refutes s list
 
--- and then nobody can meet the sheet, whatever the list and from whichever hand.
+-- and then nobody can meet the sheet, whichever number they give lot 0, whatever the list and from whichever hand.
 abbrev pub ZeroMeans : Numbers → List ℕ → Type 0
 ZeroMeans r s = r .check ≡ 0 → (f : ℕ → ℕ) → ¬ Meets f s
 

@@ -19,7 +19,7 @@ ghost use Rattle.merge.specs.Merge.{mergedConditions, whichRefused, mergeAnswer
 ghost use Rattle.merge.specs.Answers.{mergedAnswer, sheetRefused};
 ghost use Rattle.merge.specs.Promises.{MeetsBoth};
 ghost use Rattle.lihumbay.specs.Answers.{numbersOf, mergeNumbers};
-ghost use Rattle.lihumbay.specs.Promises.{ZeroExactly, NineExactly, OneExactly, OneMeets, TwoExactly, TwoRefutes, NodesBounded, FirstUnmet, ZeroPassed, ZeroMeans, ZeroWritten};
+ghost use Rattle.lihumbay.specs.Promises.{ZeroExactly, NineExactly, OneExactly, OneMeets, OneZero, TwoExactly, TwoWhichever, TwoRefutes, NodesBounded, FirstUnmet, ZeroPassed, ZeroMeans, ZeroWritten};
 use checker::CheckAnswer;
 use evaluator::Evaluation;
 use merge::MergeAnswer;
@@ -159,7 +159,9 @@ pub extern "C" fn lihumbay_search(sheet: &[u8], grouping: &mut [u8], store: &mut
     ensures full { λ r. ⌜ NineExactly r (now (sheet .entry)) (now (grouping .entry)) (now (store .entry)) ⌝ }
     ensures met { λ r. ⌜ OneExactly r (now (sheet .entry)) ⌝ }
     ensures meets { λ r. ⌜ OneMeets r (now (sheet .entry)) (now (grouping .exit)) ⌝ }
+    ensures zero { λ r. ⌜ OneZero r (now (sheet .entry)) (now (grouping .exit)) ⌝ }
     ensures cannot { λ r. ⌜ TwoExactly r (now (sheet .entry)) ⌝ }
+    ensures whichever { λ r. ⌜ TwoWhichever r (now (sheet .entry)) ⌝ }
     ensures refutes { λ r. ⌜ TwoRefutes r (now (sheet .entry)) (now (store .exit)) ⌝ }
     ensures count { λ r. ⌜ NodesBounded r (now (sheet .entry)) ⌝ }
 {

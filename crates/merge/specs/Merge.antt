@@ -6,8 +6,8 @@ use lib.Dec.{ltb}
 use lib.ListN.{length}
 use Rattle.sheet.specs.declared.Verdict.{Verdict}
 use Rattle.sheet.specs.declared.Verdict.the-variants.{Passes, Refuses}
-use Rattle.sheet.specs.Format.{mostConditions, mostRecords, lotCount}
-use Rattle.sheet.specs.Checks.{orElse, refusesIf, firstRefusal, sheetChecks, sheetVerdict}
+use Rattle.sheet.specs.Format.{lowestLot, mostConditions, mostRecords, lotCount}
+use Rattle.sheet.specs.Checks.{orElse, refusesIf, firstRefusal, sheetChecksFrom, sheetVerdictFrom}
 use Rattle.sheet.specs.Conditions.{Term, conditions}
 use Rattle.sheet.specs.Answers.{Answer, answered, answerOf}
 use Rattle.canonical.specs.Canonical.{canonical, canonicalLength}
@@ -24,8 +24,11 @@ whichOf (Refuses check place) second = 1
 whichOf Passes (Refuses check place) = 2
 whichOf Passes Passes = 0
 
-unfoldable pub whichRefused : List ℕ → List ℕ → ℕ
-whichRefused s t = whichOf (sheetVerdict s) (sheetVerdict t)
+unfoldable pub whichRefusedFrom : ℕ → List ℕ → List ℕ → ℕ
+whichRefusedFrom lowest s t = whichOf (sheetVerdictFrom lowest s) (sheetVerdictFrom lowest t)
+
+abbrev pub whichRefused : List ℕ → List ℕ → ℕ
+whichRefused s t = whichRefusedFrom lowestLot s t
 
 module _ (mayLeaveOut : List Term → Bool) (s t : List ℕ) where
   -- "the conditions of the first come in order, then those of the second; one with the same terms in the same order as an earlier one is left out"
@@ -50,14 +53,26 @@ module _ (mayLeaveOut : List Term → Bool) (s t : List ℕ) where
   unfoldable pub check19 : List ℕ → Verdict
   check19 out = refusesIf (ltb (length out) mergedLength) 19 mergedLength
 
-  -- "The first sheet is checked before the second"; 18 and 19 "both after the two readings".
-  unfoldable pub mergeVerdict : List ℕ → Verdict
-  mergeVerdict out = firstRefusal (sheetChecks s ++ (sheetChecks t ++ check18 ∷ check19 out ∷ []))
+module _ (lowest : ℕ) (mayLeaveOut : List Term → Bool) (s t out : List ℕ) where
+  -- "The first sheet is checked before the second"; 18 and 19 "both after the two readings": where lots count from `lowest`.
+  unfoldable pub mergeVerdictFrom : Verdict
+  mergeVerdictFrom =
+      firstRefusal (sheetChecksFrom lowest s ++ (sheetChecksFrom lowest t ++ check18 mayLeaveOut s t ∷ check19 mayLeaveOut s t out ∷ []))
 
   -- "each answers the length it wrote"
-  unfoldable pub mergeAnswer : List ℕ → Answer
-  mergeAnswer out = answerOf (mergeVerdict out) (answered mergedLength 0 0)
+  unfoldable pub mergeAnswerFrom : Answer
+  mergeAnswerFrom = answerOf mergeVerdictFrom (answered (mergedLength mayLeaveOut s t) 0 0)
 
   -- The output afterwards: on a refusal "nothing written".
-  unfoldable pub mergeOut : List ℕ → List ℕ
-  mergeOut out = outputAfter (mergeAnswer out) merged out
+  unfoldable pub mergeOutFrom : List ℕ
+  mergeOutFrom = outputAfter mergeAnswerFrom (merged mayLeaveOut s t) out
+
+-- As lots do count.
+abbrev pub mergeVerdict : (List Term → Bool) → List ℕ → List ℕ → List ℕ → Verdict
+mergeVerdict mayLeaveOut s t out = mergeVerdictFrom lowestLot mayLeaveOut s t out
+
+abbrev pub mergeAnswer : (List Term → Bool) → List ℕ → List ℕ → List ℕ → Answer
+mergeAnswer mayLeaveOut s t out = mergeAnswerFrom lowestLot mayLeaveOut s t out
+
+abbrev pub mergeOut : (List Term → Bool) → List ℕ → List ℕ → List ℕ → List ℕ
+mergeOut mayLeaveOut s t out = mergeOutFrom lowestLot mayLeaveOut s t out

@@ -11,7 +11,7 @@ use lib.Dec.{eqb}
 use lib.ListN.{length, length-append}
 use lib.Seq.{getD-append-seam}
 use Rattle.sheet.specs.declared.Verdict.the-variants.{Passes}
-use Rattle.sheet.specs.Format.{mostRecords, lotCount, conditionCount}
+use Rattle.sheet.specs.Format.{lowestLot, mostRecords, lotCount, conditionCount}
 use Rattle.sheet.specs.Checks.{Accepted, orElse, refusesIf, firstRefusal, lotInRange}
 use Rattle.sheet.proofs.Accepted.{lot-in}
 use Rattle.sheet.proofs.Verdicts.{passes-firstRefusal}
@@ -34,7 +34,7 @@ use Rattle.store.specs.Records.{NodeRecord, encodeAll, recordLength, mostNodes}
 use Rattle.outcome.specs.Nodes.{records}
 use Rattle.outcome.proofs.Fitting.{bytes-count, node-count, search-fits}
 use Rattle.store.proofs.Codec.{records-of}
-use Rattle.refutation.specs.Refutation.{mostSplits, Split, decisionsOf, notFalse, groundFails, nearest, turned, afterGround, named, conditionInRange, walkFrom, check10, walkVerdict, listVerdict, Refutes}
+use Rattle.refutation.specs.Refutation.{mostSplits, Split, decisionsOf, notFalse, groundFails, nearest, turned, afterGround, named, conditionInRange, walkFrom, check10, walkVerdict, listVerdictFrom, Refutes}
 
 module _ (s : List ℕ) (ok : Accepted s) where
   -- ---- a ground
@@ -60,7 +60,7 @@ module _ (s : List ℕ) (ok : Accepted s) where
 
   -- ---- a split
 
-  split-lots : (ds : Decisions) (a b : ℕ) → SplitAt ds (conditions s) a b → (lotInRange (lotCount s) a && lotInRange (lotCount s) b) ≡ true
+  split-lots : (ds : Decisions) (a b : ℕ) → SplitAt ds (conditions s) a b → (lotInRange lowestLot (lotCount s) a && lotInRange lowestLot (lotCount s) b) ≡ true
   split-lots ds a b at =
       let terms = all-at (All (TermIn (lotCount s))) (at .taken .front) (at .terms) (at .taken .back) (rw (at .taken .place) at (conditions-in s ok)) in
       let pair = all-at (TermIn (lotCount s)) (at .first .before) (same a b) (at .first .after) (rw (at .first .place) at terms) in
@@ -71,7 +71,7 @@ module _ (s : List ℕ) (ok : Accepted s) where
   own-walk : {ds : Decisions} {t : Tree} → Visits (nodeRule (conditions s)) ds t → isMet t ≡ false → All Small ds
       → (above : List Split) → decisionsOf above ≡ ds → length above + depth t ≤ mostSplits
       → (at : ℕ) (rest : List NodeRecord)
-      → walkFrom s (records at t ++ rest) at above ≡ afterGround (walkFrom s rest) rest (at + nodeCount t) (nearest above)
+      → walkFrom lowestLot s (records at t ++ rest) at above ≡ afterGround (walkFrom lowestLot s rest) rest (at + nodeCount t) (nearest above)
   unfolding isMet records nodeCount depth walkFrom nearest
   own-walk (visits-met e) m small above path deep at rest = absurd (false≢true (sym m))
   own-walk {ds} (visits-ground {c = c} e) m small above path deep at rest =
@@ -85,15 +85,15 @@ module _ (s : List ℕ) (ok : Accepted s) where
       let here : Split = record { number = at; next = next; decision = same a b } in
       let same-branch = own-walk v q (pair, small) (here ∷ above) (ap (λ (l : Decisions). same a b ∷ l) path) (omega arith) (at + 1) (records next u ++ rest) in
       let apart-branch = own-walk w m (pair, small) (turned here a b ∷ above) (ap (λ (l : Decisions). apart a b ∷ l) path) (omega arith) next rest in
-      let turn : orElse (refusesIf (not (eqb next next)) 13 at) (walkFrom s (records next u ++ rest) next (turned here a b ∷ above))
-      ≡ walkFrom s (records next u ++ rest) next (turned here a b ∷ above) = simp (eq-eqb next next refl) in
+      let turn : orElse (refusesIf (not (eqb next next)) 13 at) (walkFrom lowestLot s (records next u ++ rest) next (turned here a b ∷ above))
+      ≡ walkFrom lowestLot s (records next u ++ rest) next (turned here a b ∷ above) = simp (eq-eqb next next refl) in
       let count : next + nodeCount u ≡ at + (1 + (nodeCount t + nodeCount u)) = omega arith in
       rw (split-lots ds a b split′, lt-leb mostSplits (length above) (omega arith))
-      ((λ i. walkFrom s (append-assoc (records (at + 1) t) (records next u) rest i) (sym (add-one at) i) (here ∷ above))
+      ((λ i. walkFrom lowestLot s (append-assoc (records (at + 1) t) (records next u) rest i) (sym (add-one at) i) (here ∷ above))
       ∙ same-branch
       ∙ turn
       ∙ apart-branch
-      ∙ ap (λ (n : ℕ). afterGround (walkFrom s rest) rest n (nearest above)) count)
+      ∙ ap (λ (n : ℕ). afterGround (walkFrom lowestLot s rest) rest n (nearest above)) count)
 
   -- ---- the search
 
@@ -120,18 +120,18 @@ module _ (s : List ℕ) (ok : Accepted s) where
           le-ltb mostNodes (length (encodeAll (records 1 (searchTree (conditions s)))) / recordLength) (omega arith),
         )
 
-    walk-passes : walkVerdict s bytes ≡ Passes
+    walk-passes : walkVerdict lowestLot s bytes ≡ Passes
     unfolding walkVerdict bytes tree nearest
     walk-passes =
         let visits = search-visits (conditions s) in
         let decoded = records-of (records 1 (searchTree (conditions s))) (search-fits s ok few) in
         let deep : depth (searchTree (conditions s)) ≤ mostSplits = le-trans (sheet-depth s ok) splits-admitted in
-        ap (λ (list : List NodeRecord). walkFrom s list 1 []) (decoded ∙ sym (append-nil (records 1 (searchTree (conditions s)))))
+        ap (λ (list : List NodeRecord). walkFrom lowestLot s list 1 []) (decoded ∙ sym (append-nil (records 1 (searchTree (conditions s)))))
         ∙ own-walk visits m tt [] refl (omega arith) 1 []
 
     -- Theorem 7.
     pub own-grounds-pass : Refutes s (encodeAll (records 1 (searchTree (conditions s))))
-    unfolding listVerdict bytes tree
+    unfolding listVerdictFrom bytes tree
     own-grounds-pass =
-        further-accepted s (check10 bytes ∷ walkVerdict s bytes ∷ []) ok
-        ∙ passes-firstRefusal (check10 bytes) (walkVerdict s bytes ∷ []) long-enough (passes-firstRefusal (walkVerdict s bytes) [] walk-passes (unfold firstRefusal in refl))
+        further-accepted s (check10 bytes ∷ walkVerdict lowestLot s bytes ∷ []) ok
+        ∙ passes-firstRefusal (check10 bytes) (walkVerdict lowestLot s bytes ∷ []) long-enough (passes-firstRefusal (walkVerdict lowestLot s bytes) [] walk-passes (unfold firstRefusal in refl))

@@ -3,17 +3,20 @@
 use Prim.Native.Nat.{ℕ, _*_}
 use mathlib.Core.Bool.{Bool, true, false}
 use mathlib.Core.List.{List}
+use mathlib.Core.Logic.{_↔_}
+use mathlib.Core.Path.{_≡_}
 use lib.Dec.{ltb}
 use lib.ListN.{replicate}
 use Rattle.buffers.specs.Written.{written}
 use Rattle.sheet.specs.declared.Verdict.{Verdict}
 use Rattle.sheet.specs.declared.Verdict.the-variants.{Passes, Refuses}
-use Rattle.sheet.specs.Format.{lotCount}
-use Rattle.sheet.specs.Conditions.{conditions}
+use Rattle.sheet.specs.Format.{lowestLot, lotCount}
+use Rattle.sheet.specs.Conditions.{InLots, conditions}
 use Rattle.sheet.specs.Checks.{orElse, refusesIf}
 use Rattle.sheet.specs.Answers.{Answer, refused, answered}
+use Rattle.equality.specs.Node.{share}
 use Rattle.equality.specs.Search.{Tree, searchTree, isMet, nodeCount, metDecisions, groupingBytes}
-use Rattle.equality.specs.Evaluator.{groupingVerdict}
+use Rattle.equality.specs.Evaluator.{groupingVerdict, groupingVerdictFrom, numberIn}
 use Rattle.outcome.specs.Nodes.{records}
 use Rattle.store.specs.Records.{encodeAll, recordLength, capacity}
 
@@ -90,7 +93,18 @@ outcomeOf n result grouping store =
       store = storeAfter result store;
     }
 
--- The search's outcome.
-unfoldable pub searchOutcome : List ℕ → List ℕ → List ℕ → Outcome
-searchOutcome s grouping store =
-    outcomeOf (lotCount s) (resultOf (groupingVerdict s grouping) (capacity store) (searchTree (conditions s))) grouping store
+-- The search's outcome: where lots count from `lowest`, and as they do.
+unfoldable pub searchOutcomeFrom : ℕ → List ℕ → List ℕ → List ℕ → Outcome
+searchOutcomeFrom lowest s grouping store =
+    outcomeOf (lotCount s) (resultOf (groupingVerdictFrom lowest s grouping) (capacity store) (searchTree (conditions s))) grouping store
+
+abbrev pub searchOutcome : List ℕ → List ℕ → List ℕ → Outcome
+searchOutcome s grouping store = searchOutcomeFrom lowestLot s grouping store
+
+-- ---- lot 0's class in a grouping
+
+-- "The smallest lot of a consignment may thus be 0" (document 02): each lot's number in the grouping is 0 exactly when the lot is in lot 0's class at the met
+-- node of the sheet's search. (A lot's number is its byte; lot 0 has none, and its number is 0.)
+abbrev pub ZeroGroup : List ℕ → List ℕ → Type 0
+ZeroGroup s grouping =
+    (lot : ℕ) → InLots (lotCount s) lot → (numberIn grouping lot ≡ 0 ↔ share (metDecisions (searchTree (conditions s))) lot 0 ≡ true)

@@ -1,2 +1,3 @@
+pub mod Admitted
 pub mod Sound
 pub mod Withdrawn

@@ -9,14 +9,14 @@ use lib.Dec.{eqb, leb}
 use lib.ListN.{length}
 use Rattle.sheet.specs.declared.Verdict.{Verdict}
 use Rattle.sheet.specs.declared.Verdict.the-variants.{Passes, Refuses}
-use Rattle.sheet.specs.Format.{lotCount, conditionCount}
+use Rattle.sheet.specs.Format.{lowestLot, lotCount, conditionCount}
 use Rattle.sheet.specs.Checks.{Accepted, refusesIf, lotInRange}
 use Rattle.sheet.specs.Conditions.{Term, same, apart, conditions}
 use Rattle.sheet.proofs.Verdicts.{orElse-passes, refusesIf-passes, firstRefusal-passes}
 use Rattle.sheet.proofs.Further.{further-passes}
 use Rattle.buffers.specs.Lists.{All}
 use Rattle.buffers.proofs.Lists.{all-map, all-nth}
-use Rattle.sheet.proofs.Accepted.{sound}
+use Rattle.sheet.proofs.Accepted.{sound, lot-in}
 use Rattle.sheet.proofs.Conditions.{conditions-length}
 use Rattle.equality.specs.Meaning.{MeetsCondition, Meets}
 use Rattle.equality.specs.Node.{Decisions, Respects, Value, isTrue, isFalse, isOpen, value}
@@ -25,7 +25,7 @@ use Rattle.equality.specs.Opens.{Small}
 use Rattle.equality.proofs.Small.{conditions-small}
 use Rattle.equality.proofs.Right.{false-unmet}
 use Rattle.store.specs.Records.{NodeRecord, splitRecord, groundRecord, metRecord, noRecord, recordsOf}
-use Rattle.refutation.specs.Refutation.{mostSplits, Split, decisionsOf, notFalse, groundFails, nearestOf, nearest, turned, afterGround, named, conditionInRange, walkRecord, walkFrom, check10, walkVerdict, listVerdict, Refutes}
+use Rattle.refutation.specs.Refutation.{mostSplits, Split, decisionsOf, notFalse, groundFails, nearestOf, nearest, turned, afterGround, named, conditionInRange, walkRecord, walkFrom, check10, walkVerdict, listVerdictFrom, Refutes}
 
 refuses-passes : {check place : ℕ} → Refuses check place ≡ Passes → ⊥
 refuses-passes e = let z : _≡_ {A = ℕ} 0 1 = cc in omega arith
@@ -89,21 +89,19 @@ module _ {A : Type 0} (decide : (x y : A) → Dec (x ≡ y)) (f : ℕ → A) (s 
 
   -- ---- the walk
 
-  in-range-small : (a b : ℕ) → (lotInRange (lotCount s) a && lotInRange (lotCount s) b) ≡ true → Small (same a b)
+  in-range-small : (a b : ℕ) → (lotInRange lowestLot (lotCount s) a && lotInRange lowestLot (lotCount s) b) ≡ true → Small (same a b)
   in-range-small a b e =
-      let both = and-eq-true-iff (lotInRange (lotCount s) a) (lotInRange (lotCount s) b) .0 e in
-      let first = and-eq-true-iff (leb 1 a) (leb a (lotCount s)) .0 (both .0) in
-      let second = and-eq-true-iff (leb 1 b) (leb b (lotCount s)) .0 (both .1) in
-      omega (arith, leb-true a (lotCount s) (first .1), leb-true b (lotCount s) (second .1), sound s ok .header .lots)
+      let (first, second) = and-eq-true-iff (lotInRange lowestLot (lotCount s) a) (lotInRange lowestLot (lotCount s) b) .0 e in
+      omega (arith, lot-in (lotCount s) a .0 first .high, lot-in (lotCount s) b .0 second .high, sound s ok .header .lots)
 
   record-excludes : (r : NodeRecord) (rest : List NodeRecord) (walk : ℕ → List Split → Verdict) → Excludes walk
-      → (at : ℕ) (above : List Split) → All Small (decisionsOf above) → walkRecord s walk rest at above r ≡ Passes → Excluded above
+      → (at : ℕ) (above : List Split) → All Small (decisionsOf above) → walkRecord lowestLot s walk rest at above r ≡ Passes → Excluded above
   unfolding Respects
   record-excludes (splitRecord a b next) rest walk excludes at above small e =
       let below : List Split = record { number = at; next = next; decision = same a b } ∷ above in
       let deep = orElse-passes (refusesIf (leb mostSplits (length above)) 15 at) (walk (suc at) below) in
-      let lots = orElse-passes (refusesIf (not (lotInRange (lotCount s) a && lotInRange (lotCount s) b)) 11 at) _ e in
-      let pair = in-range-small a b (not-false _ (refusesIf-passes (not (lotInRange (lotCount s) a && lotInRange (lotCount s) b)) 11 at (lots .0))) in
+      let lots = orElse-passes _ _ e in
+      let pair = in-range-small a b (not-false _ (refusesIf-passes _ 11 at (lots .0))) in
       let excluded = excludes (suc at) below (pair, small) (deep (lots .1) .1) in
       (either (decide (f a) (f b)) (excluded .0) (excluded .1 .0), excluded .1 .1)
     where
@@ -120,19 +118,19 @@ module _ {A : Type 0} (decide : (x y : A) → Dec (x ≡ y)) (f : ℕ → A) (s 
   record-excludes metRecord rest walk excludes at above small e = absurd (refuses-passes e)
   record-excludes noRecord rest walk excludes at above small e = absurd (refuses-passes e)
 
-  walk-excludes : (list : List NodeRecord) → Excludes (walkFrom s list)
+  walk-excludes : (list : List NodeRecord) → Excludes (walkFrom lowestLot s list)
   unfolding walkFrom
   walk-excludes [] at above small e = absurd (refuses-passes e)
-  walk-excludes (r ∷ rest) at above small e = record-excludes r rest (walkFrom s rest) (walk-excludes rest) at above small e
+  walk-excludes (r ∷ rest) at above small e = record-excludes r rest (walkFrom lowestLot s rest) (walk-excludes rest) at above small e
 
-  no-meeting : (list : List ℕ) → walkVerdict s list ≡ Passes → ⊥
+  no-meeting : (list : List ℕ) → walkVerdict lowestLot s list ≡ Passes → ⊥
   unfolding walkVerdict Respects
   no-meeting list e = walk-excludes (recordsOf list) 1 [] tt e .0 tt
 
 -- Theorem 6.
 pub refutation-sound : (s list : List ℕ) → Refutes s list → {A : Type 0} → ((x y : A) → Dec (x ≡ y)) → (f : ℕ → A) → ¬ Meets f s
-unfolding listVerdict
+unfolding listVerdictFrom
 refutation-sound s list passes decide f meets =
-    let accepted = further-passes s (check10 list ∷ walkVerdict s list ∷ []) passes in
-    let long = firstRefusal-passes (check10 list) (walkVerdict s list ∷ []) (accepted .1) in
-    no-meeting decide f s (accepted .0) meets list (firstRefusal-passes (walkVerdict s list) [] (long .1) .0)
+    let accepted = further-passes s (check10 list ∷ walkVerdict lowestLot s list ∷ []) passes in
+    let long = firstRefusal-passes (check10 list) (walkVerdict lowestLot s list ∷ []) (accepted .1) in
+    no-meeting decide f s (accepted .0) meets list (firstRefusal-passes (walkVerdict lowestLot s list) [] (long .1) .0)

@@ -6,7 +6,7 @@ use mathlib.Core.Path.{_≡_, ap, _∙_}
 use native.Mathlib.Omega.{arith}
 use borrow.Author.Tests.{le-leb}
 use Rattle.sheet.specs.declared.Verdict.the-variants.{Refuses}
-use Rattle.sheet.specs.Format.{conditionCount, headAt}
+use Rattle.sheet.specs.Format.{lowestLot, conditionCount, headAt}
 use Rattle.sheet.specs.Conditions.{conditionAt}
 use Rattle.sheet.proofs.Conditions.{conditions-at, withdrawn-empty}
 use Rattle.equality.specs.Node.{Decisions}
@@ -21,7 +21,7 @@ no-term-ground ds = some-no-term _
 
 -- and by the walk, of a condition whose head is zero.
 pub withdrawn-refused : (s : List ℕ) (c : ℕ) → 1 ≤ c → c ≤ conditionCount s → headAt s c ≡ 0
-    → (rest : List NodeRecord) (at : ℕ) (above : List Split) → walkFrom s (groundRecord c ∷ rest) at above ≡ Refuses 12 at
+    → (rest : List NodeRecord) (at : ℕ) (above : List Split) → walkFrom lowestLot s (groundRecord c ∷ rest) at above ≡ Refuses 12 at
 unfolding walkFrom
 withdrawn-refused s c low high zero rest at above =
     let number : suc (c - 1) ≡ c = omega arith in

@@ -1,5 +1,5 @@
--- What the walk says of lists over document 01's sheet A, by computation: each of checks 10 to 15, with its place; and of two lists over A with a condition
--- withdrawn.
+-- What the walk says of lists over document 01's sheet A, by computation: each of checks 10 to 15, with its place; of two lists over A with a condition
+-- withdrawn; and of lists that name lot 0.
 use Prim.Native.Nat.{ℕ, zero, suc}
 use mathlib.Core.List.{List, [], _∷_, _++_}
 use mathlib.Core.Path.{_≡_, refl}
@@ -7,13 +7,13 @@ use lib.ListN.{take, set}
 use Rattle.sheet.specs.declared.Verdict.{Verdict}
 use Rattle.sheet.specs.declared.Verdict.the-variants.{Passes, Refuses}
 use Rattle.buffers.specs.Bytes.{number, twoBytes}
-use Rattle.sheet.specs.Format.{headAt, signAt, spareAt, firstLotAt, secondLotAt, nextAt, zeroBytes, vacant}
-use Rattle.sheet.specs.Checks.{firstRefusal, lowestRefusal, check1, check2, check3, check4, wellFormed, check5, member, walkChain, walkChains, walked, check17And6, check7, sheetChecks}
+use Rattle.sheet.specs.Format.{lowestLot, headAt, signAt, spareAt, firstLotAt, secondLotAt, nextAt, zeroBytes, vacant}
+use Rattle.sheet.specs.Checks.{firstRefusal, lowestRefusal, check1, check2, check3, check4, wellFormed, check5, member, walkChain, walkChains, walked, check17And6, check7, sheetChecksFrom}
 use Rattle.sheet.specs.Conditions.{chain, recordsFrom, termsFrom, countUp, conditions}
 use Rattle.equality.specs.Meaning.{anyTerm, someTerm}
 use Rattle.equality.specs.Node.{merged, classes, marked, value}
 use Rattle.store.specs.Records.{NodeRecord, splitRecord, groundRecord, metRecord, encode, encodeAll, ofKind, decode, recordsOf}
-use Rattle.refutation.specs.Refutation.{groundFails, nearest, walkFrom, check10, walkVerdict, listVerdict}
+use Rattle.refutation.specs.Refutation.{groundFails, nearest, walkFrom, check10, walkVerdict, listVerdict, listVerdictFrom}
 
 -- A: same 1 2; same 2 3; apart 1 3.
 abbrev pub sheetA : List ℕ
@@ -37,6 +37,14 @@ sheetWithdrawn =
     1 ∷ 0 ∷ 2 ∷ 0 ∷ 3 ∷ 0 ∷ 0 ∷ 0 ∷
     2 ∷ 0 ∷ 1 ∷ 0 ∷ 3 ∷ 0 ∷ 0 ∷ 0 ∷ []
 
+-- same 0 1; apart 1 0.
+abbrev pub sheetZero : List ℕ
+sheetZero =
+    1 ∷ 0 ∷ 2 ∷ 0 ∷ 2 ∷ 0 ∷
+    1 ∷ 0 ∷ 2 ∷ 0 ∷
+    1 ∷ 0 ∷ 0 ∷ 0 ∷ 1 ∷ 0 ∷ 0 ∷ 0 ∷
+    2 ∷ 0 ∷ 1 ∷ 0 ∷ 0 ∷ 0 ∷ 0 ∷ 0 ∷ []
+
 -- The verdict on some bytes.
 abbrev pub says : List ℕ → Verdict
 says list = listVerdict sheetA list
@@ -55,12 +63,11 @@ pub verdicts :
     -- 10: no byte, no multiple of 8
     ∷ says []
     ∷ says (take 39 (encodeAll refutationA))
-    -- 11: kinds 0, 3 and 4, the spare byte, lots 0 and 4 and 257, a ground's condition 0 and 4, its second and its next
+    -- 11: kinds 0, 3 and 4, the spare byte, lots 4 and 257, a ground's condition 0 and 4, its second and its next
     ∷ changed 0 0
     ∷ changed 8 3
     ∷ changed 16 4
     ∷ changed 9 1
-    ∷ changed 2 0
     ∷ changed 4 4
     ∷ changed 3 1
     ∷ changed 18 0
@@ -69,6 +76,14 @@ pub verdicts :
     ∷ changed 38 1
     -- 12: condition 1, same 1 2, is open where the first split is on 1 3
     ∷ changed 4 3
+    -- lot 0 in a split's first field, and in its second, is in range: condition 3, apart 1 3, is open then
+    ∷ changed 2 0
+    ∷ changed 4 0
+    -- a refutation that splits on lot 0, as written in the term and the other way round
+    ∷ listVerdict sheetZero (encodeAll (splitRecord 0 1 3 ∷ groundRecord 2 ∷ groundRecord 1 ∷ []))
+    ∷ listVerdict sheetZero (encodeAll (splitRecord 1 0 3 ∷ groundRecord 2 ∷ groundRecord 1 ∷ []))
+    -- 11: a ground's condition 0, also where lot 0 is named
+    ∷ listVerdict sheetZero (encodeAll (splitRecord 0 1 3 ∷ groundRecord 0 ∷ groundRecord 1 ∷ []))
     -- 12: a ground on a withdrawn condition, where it would be the last one, and alone
     ∷ listVerdict sheetWithdrawn (encodeAll refutationA)
     ∷ listVerdict sheetWithdrawn (encodeAll (groundRecord 1 ∷ []))
@@ -81,8 +96,8 @@ pub verdicts :
     ∷ says (take 8 (encodeAll refutationA))
     ∷ says (encodeAll (refutationA ++ metRecord ∷ []))
     -- 15: 1,024 splits stand above a split
-    ∷ walkFrom sheetA (splits 1025) 1 []
-    ∷ walkFrom sheetA (splits 1024) 1 []
+    ∷ walkFrom lowestLot sheetA (splits 1025) 1 []
+    ∷ walkFrom lowestLot sheetA (splits 1024) 1 []
     ∷ []
     ≡ Passes
     ∷ Refuses 10 0
@@ -93,12 +108,16 @@ pub verdicts :
     ∷ Refuses 11 2
     ∷ Refuses 11 1
     ∷ Refuses 11 1
-    ∷ Refuses 11 1
     ∷ Refuses 11 3
     ∷ Refuses 11 4
     ∷ Refuses 11 3
     ∷ Refuses 11 5
     ∷ Refuses 12 5
+    ∷ Refuses 12 3
+    ∷ Refuses 12 3
+    ∷ Passes
+    ∷ Passes
+    ∷ Refuses 11 2
     ∷ Refuses 12 5
     ∷ Refuses 12 1
     ∷ Refuses 13 1
@@ -110,5 +129,5 @@ pub verdicts :
     ∷ Refuses 15 1025
     ∷ Refuses 14 1025
     ∷ []
-unfolding number twoBytes headAt signAt spareAt firstLotAt secondLotAt nextAt zeroBytes vacant firstRefusal lowestRefusal check1 check2 check3 check4 wellFormed check5 member walkChain walkChains walked check17And6 check7 sheetChecks chain recordsFrom termsFrom countUp conditions anyTerm someTerm merged classes marked value encode encodeAll ofKind decode recordsOf groundFails nearest walkFrom check10 walkVerdict listVerdict splits
+unfolding number twoBytes headAt signAt spareAt firstLotAt secondLotAt nextAt zeroBytes vacant firstRefusal lowestRefusal check1 check2 check3 check4 wellFormed check5 member walkChain walkChains walked check17And6 check7 sheetChecksFrom chain recordsFrom termsFrom countUp conditions anyTerm someTerm merged classes marked value encode encodeAll ofKind decode recordsOf groundFails nearest walkFrom check10 walkVerdict listVerdictFrom splits
 verdicts = refl

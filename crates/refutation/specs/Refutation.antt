@@ -7,9 +7,9 @@ use lib.Dec.{leb, ltb, eqb}
 use lib.ListN.{length, getD}
 use Rattle.sheet.specs.declared.Verdict.{Verdict}
 use Rattle.sheet.specs.declared.Verdict.the-variants.{Passes, Refuses}
-use Rattle.sheet.specs.Format.{lotCount, conditionCount}
+use Rattle.sheet.specs.Format.{lowestLot, lotCount, conditionCount}
 use Rattle.sheet.specs.Conditions.{Term, same, apart, conditions}
-use Rattle.sheet.specs.Checks.{orElse, refusesIf, firstRefusal, sheetChecks, lotInRange}
+use Rattle.sheet.specs.Checks.{orElse, refusesIf, firstRefusal, sheetChecksFrom, lotInRange}
 use Rattle.sheet.specs.Answers.{Answer, answered, answerOf}
 use Rattle.equality.specs.Meaning.{someTerm}
 use Rattle.equality.specs.Node.{Decisions, Value, isTrue, isFalse, isOpen, value}
@@ -85,17 +85,19 @@ module _ (s : List ℕ) where
   abbrev pub conditionInRange : ℕ → Bool
   conditionInRange c = leb 1 c && leb c (conditionCount s)
 
+module _ (lowest : ℕ) (s : List ℕ) where
   -- One record, of number `at`, below the splits `above`; `rest` is what follows it. "each record, in turn | 11 | kind, spare, lot or condition out
   -- of range; second or next of a ground not 0 | record": bytes of which one has to be 0 and isn't are decoded as no record. "kinds 1 and 2 only": a met record
-  -- is out of range too. "Splits may name any two lots, also a pair already decided or a lot twice."
+  -- is out of range too. "Splits may name any two lots, also a pair already decided or a lot twice.", from `lowest` on: "Checks 5 and 11 admit lot 0" (document
+  -- 02), in a split's two fields, and no condition 0.
   abbrev pub walkRecord : (ℕ → List Split → Verdict) → List NodeRecord → ℕ → List Split → NodeRecord → Verdict
   walkRecord walkRest rest at above (splitRecord a b next) =
-      orElse (refusesIf (not (lotInRange (lotCount s) a && lotInRange (lotCount s) b)) 11 at)
+      orElse (refusesIf (not (lotInRange lowest (lotCount s) a && lotInRange lowest (lotCount s) b)) 11 at)
       (orElse (refusesIf (leb mostSplits (length above)) 15 at)
       (walkRest (suc at) (record { number = at; next = next; decision = same a b } ∷ above)))
   walkRecord walkRest rest at above (groundRecord c) =
-      orElse (refusesIf (not (conditionInRange c)) 11 at)
-      (orElse (refusesIf (groundFails (decisionsOf above) (named c)) 12 at)
+      orElse (refusesIf (not (conditionInRange s c)) 11 at)
+      (orElse (refusesIf (groundFails (decisionsOf above) (named s c)) 12 at)
       (afterGround walkRest rest (suc at) (nearest above)))
   walkRecord walkRest rest at above metRecord = Refuses 11 at
   walkRecord walkRest rest at above noRecord = Refuses 11 at
@@ -113,17 +115,23 @@ check10 list =
     refusesIf (eqb (length list) 0 || not (eqb (length list % recordLength) 0) || ltb mostNodes (length list / recordLength)) 10 0
 
 -- The walk, "from record 1".
-unfoldable pub walkVerdict : List ℕ → List ℕ → Verdict
-walkVerdict s list = walkFrom s (recordsOf list) 1 []
+unfoldable pub walkVerdict : ℕ → List ℕ → List ℕ → Verdict
+walkVerdict lowest s list = walkFrom lowest s (recordsOf list) 1 []
 
--- The first check of the table that a sheet and a list fail.
-unfoldable pub listVerdict : List ℕ → List ℕ → Verdict
-listVerdict s list = firstRefusal (sheetChecks s ++ check10 list ∷ walkVerdict s list ∷ [])
+-- The first check of the table that a sheet and a list fail: where lots count from `lowest`, and as they do.
+unfoldable pub listVerdictFrom : ℕ → List ℕ → List ℕ → Verdict
+listVerdictFrom lowest s list = firstRefusal (sheetChecksFrom lowest s ++ check10 list ∷ walkVerdict lowest s list ∷ [])
+
+abbrev pub listVerdict : List ℕ → List ℕ → Verdict
+listVerdict s list = listVerdictFrom lowestLot s list
 
 -- "A list passes when its walk ends there and no check has refused it.": the list (document 01: grounds) is a refutation of the sheet.
 abbrev pub Refutes : List ℕ → List ℕ → Type 0
 Refutes s list = listVerdict s list ≡ Passes
 
 -- The checker's answer: no value for a list that passes.
-unfoldable pub checkAnswer : List ℕ → List ℕ → Answer
-checkAnswer s list = answerOf (listVerdict s list) (answered 0 0 0)
+unfoldable pub checkAnswerFrom : ℕ → List ℕ → List ℕ → Answer
+checkAnswerFrom lowest s list = answerOf (listVerdictFrom lowest s list) (answered 0 0 0)
+
+abbrev pub checkAnswer : List ℕ → List ℕ → Answer
+checkAnswer s list = checkAnswerFrom lowestLot s list

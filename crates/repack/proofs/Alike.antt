@@ -7,16 +7,16 @@ use mathlib.Core.Path.{_≡_, refl, sym, ap, fun-ext, _∙_}
 use native.Mathlib.Omega.{arith}
 use lib.ListN.{length, getD}
 use Rattle.sheet.specs.declared.Verdict.{Verdict}
-use Rattle.sheet.specs.Format.{conditionCount, recordCount, headAt, filledCount}
+use Rattle.sheet.specs.Format.{lowestLot, conditionCount, recordCount, headAt, filledCount}
 use Rattle.sheet.specs.Checks.{firstRefusal, sheetChecks}
 use Rattle.sheet.specs.Conditions.{Term, conditionAt}
-use Rattle.sheet.specs.Answers.{withThird, readAnswer}
+use Rattle.sheet.specs.Answers.{withThird, readAnswer, readAnswerFrom}
 use Rattle.sheet.proofs.Further.{further-accepted}
 use Rattle.sheet.proofs.Conditions.{conditions-length, conditions-at, terms-count, withdrawn-empty, empty-withdrawn}
-use Rattle.equality.specs.Evaluator.{check8, groupingVerdict, evaluateAnswer}
+use Rattle.equality.specs.Evaluator.{check8, groupingVerdict, groupingVerdictFrom, evaluateAnswer, evaluateAnswerFrom}
 use Rattle.store.specs.Records.{NodeRecord, splitRecord, groundRecord, metRecord, noRecord, recordsOf}
-use Rattle.refutation.specs.Refutation.{Split, walkRecord, walkFrom, check10, walkVerdict, listVerdict, checkAnswer}
-use Rattle.outcome.specs.Outcome.{searchOutcome}
+use Rattle.refutation.specs.Refutation.{Split, walkRecord, walkFrom, check10, walkVerdict, listVerdictFrom, checkAnswer, checkAnswerFrom}
+use Rattle.outcome.specs.Outcome.{searchOutcome, searchOutcomeFrom}
 use Rattle.repack.specs.Promises.{Alike, ServedAlike}
 
 module _ (s t : List ℕ) (alike : Alike s t) where
@@ -47,7 +47,7 @@ module _ (s t : List ℕ) (alike : Alike s t) where
   alike-further vs ws e = further-accepted s vs (alike .first) ∙ e ∙ sym (further-accepted t ws (alike .second))
 
   alike-read : readAnswer s ≡ withThird (recordCount s) (readAnswer t)
-  unfolding readAnswer
+  unfolding readAnswerFrom
   alike-read = rw (alike .first, alike .second, alike .lots, alike-conditions)
 
   alike-filled : filledCount s ≡ filledCount t
@@ -56,36 +56,36 @@ module _ (s t : List ℕ) (alike : Alike s t) where
   -- ---- evaluator and search
 
   alike-grouping : (grouping : List ℕ) → groupingVerdict s grouping ≡ groupingVerdict t grouping
-  unfolding groupingVerdict check8
+  unfolding groupingVerdictFrom check8
   alike-grouping grouping = alike-further (check8 s grouping ∷ []) (check8 t grouping ∷ []) (rw (alike .lots))
 
   alike-evaluate : (grouping : List ℕ) → evaluateAnswer s grouping ≡ evaluateAnswer t grouping
-  unfolding evaluateAnswer
+  unfolding evaluateAnswerFrom
   alike-evaluate grouping = rw (alike-grouping grouping, alike .lists)
 
   -- The answer and both buffers.
   alike-search : (grouping store : List ℕ) → searchOutcome s grouping store ≡ searchOutcome t grouping store
-  unfolding searchOutcome
+  unfolding searchOutcomeFrom
   alike-search grouping store = rw (alike-grouping grouping, alike .lots, alike .lists)
 
   -- ---- refutation checker
 
-  alike-walk : (list : List NodeRecord) → walkFrom s list ≡ walkFrom t list
+  alike-walk : (list : List NodeRecord) → walkFrom lowestLot s list ≡ walkFrom lowestLot t list
   unfolding walkFrom
   alike-walk [] = refl
   alike-walk (r ∷ rest) = fun-ext (λ (at : ℕ). fun-ext (λ (above : List Split). go r at above (alike-walk rest)))
     where
       go : (r : NodeRecord) (at : ℕ) (above : List Split) {walk other : ℕ → List Split → Verdict} → walk ≡ other
-          → walkRecord s walk rest at above r ≡ walkRecord t other rest at above r
+          → walkRecord lowestLot s walk rest at above r ≡ walkRecord lowestLot t other rest at above r
       go (splitRecord a b next) at above e = rw (alike .lots, e)
       go (groundRecord c) at above e = rw (alike-conditions, alike .lists, e)
       go metRecord at above e = refl
       go noRecord at above e = refl
 
   alike-check : (list : List ℕ) → checkAnswer s list ≡ checkAnswer t list
-  unfolding checkAnswer listVerdict walkVerdict
+  unfolding checkAnswerFrom listVerdictFrom walkVerdict
   alike-check list =
-      rw (alike-further (check10 list ∷ walkVerdict s list ∷ []) (check10 list ∷ walkVerdict t list ∷ [])
+      rw (alike-further (check10 list ∷ walkVerdict lowestLot s list ∷ []) (check10 list ∷ walkVerdict lowestLot t list ∷ [])
       (ap (λ (w : ℕ → List Split → Verdict). firstRefusal (check10 list ∷ w 1 [] ∷ [])) (alike-walk (recordsOf list))))
 
   -- ---- all of them

@@ -4,8 +4,8 @@ use mathlib.Core.List.{List, [], _∷_, _++_}
 use lib.Dec.{ltb}
 use lib.ListN.{length}
 use Rattle.sheet.specs.declared.Verdict.{Verdict}
-use Rattle.sheet.specs.Format.{lotCount}
-use Rattle.sheet.specs.Checks.{refusesIf, firstRefusal, sheetChecks}
+use Rattle.sheet.specs.Format.{lowestLot, lotCount}
+use Rattle.sheet.specs.Checks.{refusesIf, firstRefusal, sheetChecksFrom}
 use Rattle.sheet.specs.Conditions.{conditions}
 use Rattle.sheet.specs.Answers.{Answer, answered, answerOf}
 use Rattle.canonical.specs.Canonical.{canonical, canonicalLength}
@@ -25,13 +25,25 @@ repackedLength s = canonicalLength (conditions s)
 unfoldable pub check16 : List ℕ → List ℕ → Verdict
 check16 s out = refusesIf (ltb (length out) (repackedLength s)) 16 (repackedLength s)
 
-unfoldable pub repackVerdict : List ℕ → List ℕ → Verdict
-repackVerdict s out = firstRefusal (sheetChecks s ++ check16 s out ∷ [])
+module _ (lowest : ℕ) (s out : List ℕ) where
+  -- Where lots count from `lowest`: the first check that fails;
+  unfoldable pub repackVerdictFrom : Verdict
+  repackVerdictFrom = firstRefusal (sheetChecksFrom lowest s ++ check16 s out ∷ [])
 
--- "each answers the length it wrote"
-unfoldable pub repackAnswer : List ℕ → List ℕ → Answer
-repackAnswer s out = answerOf (repackVerdict s out) (answered (repackedLength s) 0 0)
+  -- "each answers the length it wrote";
+  unfoldable pub repackAnswerFrom : Answer
+  repackAnswerFrom = answerOf repackVerdictFrom (answered (repackedLength s) 0 0)
 
--- "a writer that repacks an accepted sheet into another buffer": the buffer afterwards.
-unfoldable pub repackOut : List ℕ → List ℕ → List ℕ
-repackOut s out = outputAfter (repackAnswer s out) (repacked s) out
+  -- "a writer that repacks an accepted sheet into another buffer": the buffer afterwards.
+  unfoldable pub repackOutFrom : List ℕ
+  repackOutFrom = outputAfter repackAnswerFrom (repacked s) out
+
+-- As lots do count.
+abbrev pub repackVerdict : List ℕ → List ℕ → Verdict
+repackVerdict s out = repackVerdictFrom lowestLot s out
+
+abbrev pub repackAnswer : List ℕ → List ℕ → Answer
+repackAnswer s out = repackAnswerFrom lowestLot s out
+
+abbrev pub repackOut : List ℕ → List ℕ → List ℕ
+repackOut s out = repackOutFrom lowestLot s out

@@ -9,13 +9,13 @@ use Rattle.sheet.specs.Conditions.{conditions}
 use Rattle.equality.specs.Search.{searchTree}
 use Rattle.equality.specs.Evaluator.{groupingVerdict}
 use Rattle.store.specs.Records.{capacity}
-use Rattle.outcome.specs.Outcome.{resultOf, searchOutcome}
+use Rattle.outcome.specs.Outcome.{resultOf, searchOutcome, searchOutcomeFrom}
 use Rattle.search.specs.declared.SearchAnswer.{SearchAnswer}
 use Rattle.search.specs.declared.SearchAnswer.the-variants.{Refused}
 use Rattle.search.specs.Answers.{searchAnswer}
-use Rattle.search.specs.Promises.{searchCase, RefusedExactly, FullExactly, FullPlace, MetExactly, MetGrouping, CannotExactly, CannotRefutes, CountBounded}
+use Rattle.search.specs.Promises.{searchCase, RefusedExactly, FullExactly, FullPlace, MetExactly, MetGrouping, MetZero, CannotExactly, CannotWhichever, CannotRefutes, CountBounded}
 use Rattle.search.specs.Visited.{EndsAs}
-use Rattle.search.proofs.Promised.{answer-of, refused-exactly, full-exactly, full-place, met-exactly, met-grouping, cannot-exactly, cannot-refutes, count-bounded}
+use Rattle.search.proofs.Promised.{answer-of, refused-exactly, full-exactly, full-place, met-exactly, met-grouping, met-zero, cannot-exactly, cannot-whichever, cannot-refutes, count-bounded}
 
 module _ (s grouping store : List ℕ) where
   -- The case and the buffers of a search whose checks before it come to this verdict.
@@ -39,12 +39,14 @@ module _ (s grouping store : List ℕ) where
       × (FullPlace (searchAnswer r) store
       × (MetExactly (searchAnswer r) s
       × (MetGrouping (searchAnswer r) s grouping′
+      × (MetZero (searchAnswer r) s grouping′
       × (CannotExactly (searchAnswer r) s
+      × (CannotWhichever (searchAnswer r) s
       × (CannotRefutes (searchAnswer r) s store′
-      × (CountBounded (searchAnswer r) s)))))))))))
+      × (CountBounded (searchAnswer r) s)))))))))))))
 
   pub ensured : {v : Verdict} → groupingVerdict s grouping ≡ v → (grouping′ store′ : List ℕ) (r : SearchAnswer) → EndsBy v grouping′ store′ r → Ensured grouping′ store′ r
-  unfolding searchCase searchOutcome
+  unfolding searchCase searchOutcomeFrom
   ensured {v} verdict grouping′ store′ r ends = by (subst (λ (w : Verdict). EndsBy w grouping′ store′ r) (sym verdict) ends)
     where
       by : EndsBy (groupingVerdict s grouping) grouping′ store′ r → Ensured grouping′ store′ r
@@ -67,10 +69,16 @@ module _ (s grouping store : List ℕ) where
                       (
                         met-grouping s grouping store (searchAnswer r) told grouping′ (e .grouped),
                         (
-                          cannot-exactly s grouping store (searchAnswer r) told,
+                          met-zero s grouping store (searchAnswer r) told grouping′ (e .grouped),
                           (
-                            cannot-refutes s grouping store (searchAnswer r) told store′ (e .stored),
-                            (count-bounded s grouping store (searchAnswer r) told),
+                            cannot-exactly s grouping store (searchAnswer r) told,
+                            (
+                              cannot-whichever s grouping store (searchAnswer r) told,
+                              (
+                                cannot-refutes s grouping store (searchAnswer r) told store′ (e .stored),
+                                (count-bounded s grouping store (searchAnswer r) told),
+                              ),
+                            ),
                           ),
                         ),
                       ),

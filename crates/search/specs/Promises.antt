@@ -8,11 +8,11 @@ use lib.ListN.{take}
 use Rattle.sheet.specs.declared.Verdict.the-variants.{Passes, Refuses}
 use Rattle.sheet.specs.Conditions.{conditions}
 use Rattle.sheet.specs.Answers.{Answer, refused, answered}
-use Rattle.equality.specs.Meaning.{Meets}
+use Rattle.equality.specs.Meaning.{Meets, CanBeMet, CannotBeMet}
 use Rattle.equality.specs.Search.{searchTree, nodeCount, branching}
 use Rattle.equality.specs.Evaluator.{groupingVerdict, GroupingMeets}
 use Rattle.store.specs.Records.{recordLength, capacity}
-use Rattle.outcome.specs.Outcome.{Result, refusedResult, fullResult, metResult, cannotResult, resultOf, searchVerdict}
+use Rattle.outcome.specs.Outcome.{Result, refusedResult, fullResult, metResult, cannotResult, resultOf, searchVerdict, ZeroGroup}
 use Rattle.refutation.specs.Refutation.{checkAnswer}
 use Rattle.search.specs.declared.SearchAnswer.{SearchAnswer}
 use Rattle.search.specs.declared.SearchAnswer.the-variants.{Met, Cannot, Full, Refused}
@@ -47,22 +47,32 @@ FullPlace a store = (place : ℕ) → a ≡ refused 9 place → place ≡ capaci
 
 -- ---- met: 1, and the count
 
--- Of a search that was not refused: met exactly when somebody could give the lots whole numbers that meet every condition.
+-- Of a search that was not refused: met exactly when somebody could give the lots whole numbers, 0 to lot 0, that meet every condition.
 abbrev pub MetExactly : Answer → List ℕ → Type 0
 MetExactly (refused check place) s = Unit {0}
-MetExactly (answered first count third) s = first ≡ 1 ↔ (f : ℕ → ℕ) × Meets f s
+MetExactly (answered first count third) s = first ≡ 1 ↔ CanBeMet s
 
--- Where it is met, the grouping as it is at exit meets the sheet.
+-- Where it is met, the grouping as it is at exit meets the sheet,
 abbrev pub MetGrouping : Answer → List ℕ → List ℕ → Type 0
 MetGrouping (refused check place) s grouping′ = Unit {0}
 MetGrouping (answered first count third) s grouping′ = first ≡ 1 → GroupingMeets grouping′ s
+
+-- and a lot's number there is 0 exactly when the lot is in lot 0's class.
+abbrev pub MetZero : Answer → List ℕ → List ℕ → Type 0
+MetZero (refused check place) s grouping′ = Unit {0}
+MetZero (answered first count third) s grouping′ = first ≡ 1 → ZeroGroup s grouping′
 
 -- ---- cannot: 2, and the count
 
 -- Of a search that was not refused: cannot exactly when nobody could give the lots such numbers,
 abbrev pub CannotExactly : Answer → List ℕ → Type 0
 CannotExactly (refused check place) s = Unit {0}
-CannotExactly (answered first count third) s = first ≡ 2 ↔ ((f : ℕ → ℕ) → ¬ Meets f s)
+CannotExactly (answered first count third) s = first ≡ 2 ↔ CannotBeMet s
+
+-- nor others that have another number for lot 0,
+abbrev pub CannotWhichever : Answer → List ℕ → Type 0
+CannotWhichever (refused check place) s = Unit {0}
+CannotWhichever (answered first count third) s = first ≡ 2 → (f : ℕ → ℕ) → ¬ Meets f s
 
 -- nor values of any other type whose equality is decidable. (A contract's clause cannot speak of all types: this one is a theorem only.)
 abbrev pub CannotAny : Answer → List ℕ → Type 1

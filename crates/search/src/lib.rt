@@ -11,7 +11,7 @@ ghost use Rattle.sheet.specs.Inner.{HasConditions};
 ghost use Rattle.store.specs.Records.{capacity};
 ghost use Rattle.outcome.specs.Outcome.{resultOf, searchOutcome};
 ghost use Rattle.search.specs.Answers.{searchAnswer};
-ghost use Rattle.search.specs.Promises.{searchCase, RefusedExactly, FullExactly, FullPlace, MetExactly, MetGrouping, CannotExactly, CannotRefutes, CountBounded};
+ghost use Rattle.search.specs.Promises.{searchCase, RefusedExactly, FullExactly, FullPlace, MetExactly, MetGrouping, MetZero, CannotExactly, CannotWhichever, CannotRefutes, CountBounded};
 ghost use Rattle.search.specs.Visited.{Searchable, Visitable, Splittable, Explored, VisitExplores, SplitExplores, EndsAs};
 ghost use Rattle.classes.specs.Maps.{ClassesWithin};
 ghost use Rattle.classes.specs.Pairs.{Untouched};
@@ -249,7 +249,9 @@ pub fn search(sheet: &[u8], grouping: &mut [u8], store: &mut [u8]) -> SearchAnsw
     ensures capacity { λ r. ⌜ FullPlace (searchAnswer r) (now (store .entry)) ⌝ }
     ensures met { λ r. ⌜ MetExactly (searchAnswer r) (now (sheet .entry)) ⌝ }
     ensures meets { λ r. ⌜ MetGrouping (searchAnswer r) (now (sheet .entry)) (now (grouping .exit)) ⌝ }
+    ensures zero { λ r. ⌜ MetZero (searchAnswer r) (now (sheet .entry)) (now (grouping .exit)) ⌝ }
     ensures cannot { λ r. ⌜ CannotExactly (searchAnswer r) (now (sheet .entry)) ⌝ }
+    ensures whichever { λ r. ⌜ CannotWhichever (searchAnswer r) (now (sheet .entry)) ⌝ }
     ensures refutes { λ r. ⌜ CannotRefutes (searchAnswer r) (now (sheet .entry)) (now (store .exit)) ⌝ }
     ensures count { λ r. ⌜ CountBounded (searchAnswer r) (now (sheet .entry)) ⌝ }
 {

@@ -11,7 +11,7 @@ use borrow.Author.Tests.{eqb-true, leb-true, le-leb, ltb-false, not-false}
 use Rattle.sheet.specs.declared.Header.{Header}
 use Rattle.sheet.specs.declared.Verdict.the-variants.{Passes}
 use Rattle.sheet.specs.Format.{lowestLot, headerLength, lotCount, conditionCount, recordCount, headAt, sameSign, apartSign, signAt, spareAt, firstLotAt, secondLotAt, nextAt, vacant}
-use Rattle.sheet.specs.Checks.{orElse, firstRefusal, check2, check3, check4, check5, check17And6, check7, lotInRange, wellFormed, Walk, reached, twice, intoVacant, member, walked, chainsVerdict, reachedBy, headerChecks, sheetChecks, sheetVerdict, Accepted}
+use Rattle.sheet.specs.Checks.{orElse, firstRefusal, check2, check3, check4, check5, check17And6, check7, lotInRange, wellFormed, Walk, reached, twice, intoVacant, member, walked, chainsVerdict, reachedBy, headerChecks, sheetChecksFrom, sheetVerdict, sheetVerdictFrom, Accepted}
 use Rattle.sheet.specs.Conditions.{InLots}
 use Rattle.sheet.specs.Inner.{headerAt, HasHeader, HasRecord}
 use Rattle.sheet.proofs.Verdicts.{orElse-end, orElse-assoc, orElse-passes, firstRefusal-passes, refusesIf-passes, lowest-passes}
@@ -37,8 +37,8 @@ pub record Sound (s : List ℕ) : Type 0 where
 
 -- The header's, then one after another.
 pub in-order : (s : List ℕ)
-    → sheetVerdict s ≡ orElse (firstRefusal (headerChecks s)) (orElse (check4 s) (orElse (check5 s) (orElse (check17And6 s) (check7 s))))
-unfolding sheetVerdict sheetChecks firstRefusal
+    → sheetVerdict s ≡ orElse (firstRefusal (headerChecks s)) (orElse (check4 s) (orElse (check5 lowestLot s) (orElse (check17And6 s) (check7 s))))
+unfolding sheetVerdictFrom sheetChecksFrom firstRefusal
 in-order s = simp (orElse-end, orElse-assoc)
 
 -- ---- bytes with a header
@@ -67,7 +67,7 @@ other : {a b : Bool} → a ≡ false → (a || b) ≡ true → b ≡ true
 other absent e = rw absent at e
 
 -- The test on a lot decides.
-pub lot-in : (n lot : ℕ) → (lotInRange n lot ≡ true) ↔ InLots n lot
+pub lot-in : (n lot : ℕ) → (lotInRange lowestLot n lot ≡ true) ↔ InLots n lot
 lot-in n lot = (
   (λ e.
       let (low, high) = and-eq-true-iff (leb lowestLot lot) (leb lot n) .0 e in
@@ -75,7 +75,7 @@ lot-in n lot = (
   (λ h. and-eq-true-iff (leb lowestLot lot) (leb lot n) .1 (le-leb _ _ (h .low), le-leb _ _ (h .high))),
 )
 
-well-formed : (s : List ℕ) (r : ℕ) → wellFormed s r ≡ true → SoundRecord s r
+well-formed : (s : List ℕ) (r : ℕ) → wellFormed lowestLot s r ≡ true → SoundRecord s r
 unfolding wellFormed
 well-formed s r e =
     let (sign, e₁) = and-eq-true-iff _ _ .0 e in
@@ -126,7 +126,7 @@ module _ (s : List ℕ) where
   heads-found p c low high = ltb-false _ _ (lowest-passes 4 _ _ _ p c low (omega arith))
 
   -- Check 5.
-  pub records-found : check5 s ≡ Passes → (r : ℕ) → 1 ≤ r → r ≤ recordCount s → vacant s r ≡ false → SoundRecord s r
+  pub records-found : check5 lowestLot s ≡ Passes → (r : ℕ) → 1 ≤ r → r ≤ recordCount s → vacant s r ≡ false → SoundRecord s r
   unfolding check5
   records-found p r low high filled = well-formed s r (other filled (not-false _ (lowest-passes 5 _ _ _ p r low (omega arith))))
 

@@ -8,8 +8,8 @@ use native.Mathlib.Omega.{arith}
 use lib.Dec.{eqb}
 use borrow.Author.Tests.{le-ltb, le-leb, eq-eqb}
 use Rattle.sheet.specs.declared.Verdict.the-variants.{Passes}
-use Rattle.sheet.specs.Format.{sameSign, apartSign, vacant}
-use Rattle.sheet.specs.Checks.{check1, check2, check3, check4, check5, check17And6, check7, firstRefusal, wellFormed, sheetChecks, sheetVerdict, Accepted}
+use Rattle.sheet.specs.Format.{lowestLot, sameSign, apartSign, vacant}
+use Rattle.sheet.specs.Checks.{check1, check2, check3, check4, check5, check17And6, check7, firstRefusal, wellFormed, sheetChecksFrom, sheetVerdictFrom, Accepted}
 use Rattle.sheet.proofs.Verdicts.{passes-orElse, passes-refusesIf, passes-lowest}
 use Rattle.sheet.proofs.Accepted.{lot-in, SoundRecord, Sound, header-whole}
 
@@ -24,7 +24,7 @@ vacant-or : (v : Bool) {b : Bool} → (v ≡ false → b ≡ true) → (v || b) 
 vacant-or true other = refl
 vacant-or false other = other refl
 
-record-passes : {s : List ℕ} {r : ℕ} → SoundRecord s r → wellFormed s r ≡ true
+record-passes : {s : List ℕ} {r : ℕ} → SoundRecord s r → wellFormed lowestLot s r ≡ true
 unfolding wellFormed
 record-passes h =
     and-eq-true-iff _ _ .1 (
@@ -60,7 +60,7 @@ module _ (s : List ℕ) (h : Sound s) where
   unfolding check4
   four-passes = passes-lowest 4 _ _ 1 (λ c low high. le-ltb _ _ (h .heads c low (omega arith)))
 
-  five-passes : check5 s ≡ Passes
+  five-passes : check5 lowestLot s ≡ Passes
   unfolding check5
   five-passes = passes-lowest 5 _ _ 1 (λ r low high. ap not (vacant-or (vacant s r) (λ f. record-passes (h .records r low (omega arith) f))))
 
@@ -74,5 +74,5 @@ module _ (s : List ℕ) (h : Sound s) where
 
   -- So the sheet is accepted.
   pub accepted : Accepted s
-  unfolding sheetVerdict sheetChecks firstRefusal
+  unfolding sheetVerdictFrom sheetChecksFrom firstRefusal
   accepted = rw (one-passes, two-passes, three-passes, four-passes, five-passes, six-passes, seven-passes)

@@ -7,13 +7,13 @@ use native.Mathlib.Omega.{arith}
 use lib.Dec.{eqb}
 use lib.ListN.{length, getD, drop, length-map, drop-of-length-le}
 use lib.Seq.{drop-cons}
-use Rattle.sheet.specs.Format.{lotCount, conditionCount, recordCount, headAt, signAt, firstLotAt, secondLotAt, nextAt, filledCount}
+use Rattle.sheet.specs.Format.{lotCount, conditionCount, recordCount, headAt, sameSign, signAt, firstLotAt, secondLotAt, nextAt, filledCount}
 use Rattle.sheet.specs.Checks.{Accepted}
-use Rattle.sheet.specs.Conditions.{same, apart, InLots, TermIn, termAt, chain, recordsFrom, termsFrom, countUp, conditionAt, conditions}
+use Rattle.sheet.specs.Conditions.{Term, same, apart, InLots, BothLots, TermIn, termAt, chain, recordsFrom, termsFrom, countUp, conditionAt, conditions}
 use Rattle.sheet.proofs.Ranges.{length-along, getD-along, all-along}
 use Rattle.buffers.specs.Lists.{All}
 use Rattle.sheet.specs.Inner.{OnChain}
-use Rattle.sheet.proofs.Accepted.{SoundRecord, sound}
+use Rattle.sheet.proofs.Accepted.{sound}
 use Rattle.sheet.proofs.ChainEnds.{terms-end, terms-step, on-sound, head-on, next-on}
 use Rattle.sheet.proofs.Records.{allRecords, filled-most, records-length}
 
@@ -73,32 +73,41 @@ module _ (s : List ℕ) (ok : Accepted s) where
           let step = terms-step s ok (suc h) (omega arith) (omega (arith, sound s ok .heads c low high)) in
           absurd (omega (arith, ap length (sym none ∙ ap (termsFrom s) e ∙ step)))
 
-  -- The term of a record names lots of the sheet;
-  pub term-in : (r : ℕ) → 1 ≤ r → OnChain s r → TermIn (lotCount s) (termAt s r)
-  term-in r low on = go (eqb (signAt s r) 1) (fields .first, fields .second)
-    where
-      fields : SoundRecord s r
-      fields = on-sound s ok r low on
+-- ---- what holds of each term of an accepted sheet
 
-      go : (b : Bool) → InLots (lotCount s) (firstLotAt s r) × InLots (lotCount s) (secondLotAt s r)
-          → TermIn (lotCount s) (cond b (same (firstLotAt s r) (secondLotAt s r)) (apart (firstLotAt s r) (secondLotAt s r)))
-      go true both = both
-      go false both = both
+-- What holds of a record's two lots holds of both lots of its term.
+pub both-lots : (P : ℕ → Type 0) (s : List ℕ) (r : ℕ) → P (firstLotAt s r) → P (secondLotAt s r) → BothLots P (termAt s r)
+both-lots P s r first second = go (eqb (signAt s r) sameSign)
+  where
+    go : (b : Bool) → BothLots P (cond b (same (firstLotAt s r) (secondLotAt s r)) (apart (firstLotAt s r) (secondLotAt s r)))
+    go true = (first, second)
+    go false = (first, second)
 
-  chain-in : (fuel r : ℕ) → OnChain s r → All (TermIn (lotCount s)) (map (termAt s) (chain s fuel r))
+module _ (s : List ℕ) (ok : Accepted s) (P : Term → Type 0) (each : (r : ℕ) → 1 ≤ r → OnChain s r → P (termAt s r)) where
+  chain-each : (fuel r : ℕ) → OnChain s r → All P (map (termAt s) (chain s fuel r))
   unfolding chain
-  chain-in zero r on = tt
-  chain-in (suc fuel) zero on = tt
-  chain-in (suc fuel) (suc r) on = (term-in (suc r) (omega arith) on, chain-in fuel (nextAt s (suc r)) (next-on s ok (suc r) (omega arith) on))
+  chain-each zero r on = tt
+  chain-each (suc fuel) zero on = tt
+  chain-each (suc fuel) (suc r) on = (each (suc r) (omega arith) on, chain-each fuel (nextAt s (suc r)) (next-on s ok (suc r) (omega arith) on))
 
-  -- so do those of a chain,
-  pub terms-in : (r : ℕ) → OnChain s r → All (TermIn (lotCount s)) (termsFrom s r)
+  -- What holds of the terms of all records on chains holds of those of a chain,
+  pub terms-each : (r : ℕ) → OnChain s r → All P (termsFrom s r)
   unfolding termsFrom recordsFrom
-  terms-in r on = chain-in (recordCount s) r on
+  terms-each r on = chain-each (recordCount s) r on
 
-  -- and those of all conditions.
-  pub conditions-in : All (All (TermIn (lotCount s))) (conditions s)
+  -- and of those of all conditions.
+  pub conditions-each : All (All P) (conditions s)
   unfolding conditions
-  conditions-in =
-      all-along (conditionAt s) (All (TermIn (lotCount s))) (conditionCount s) 1
-      (λ c low high. terms-in (headAt s c) (head-on s ok c low (omega arith)))
+  conditions-each =
+      all-along (conditionAt s) (All P) (conditionCount s) 1 (λ c low high. terms-each (headAt s c) (head-on s ok c low (omega arith)))
+
+-- So all terms name lots of the sheet.
+module _ (s : List ℕ) (ok : Accepted s) where
+  pub term-in : (r : ℕ) → 1 ≤ r → OnChain s r → TermIn (lotCount s) (termAt s r)
+  term-in r low on = let fields = on-sound s ok r low on in both-lots (InLots (lotCount s)) s r (fields .first) (fields .second)
+
+  pub terms-in : (r : ℕ) → OnChain s r → All (TermIn (lotCount s)) (termsFrom s r)
+  terms-in r on = terms-each s ok (TermIn (lotCount s)) term-in r on
+
+  pub conditions-in : All (All (TermIn (lotCount s))) (conditions s)
+  conditions-in = conditions-each s ok (TermIn (lotCount s)) term-in

@@ -9,8 +9,8 @@ use lib.Dec.{ltb, eqb}
 use lib.ListN.{length}
 use Rattle.sheet.specs.declared.Verdict.{Verdict}
 use Rattle.sheet.specs.declared.Verdict.the-variants.{Passes, Refuses}
-use Rattle.sheet.specs.Format.{mostLots, mostConditions, mostRecords, headerLength, lotCount, conditionCount, recordCount, sheetLength, headAt, vacant}
-use Rattle.sheet.specs.Checks.{wellFormed, member, reachedBy, orElse, firstRefusal, refusesIf, lowestRefusal, check1, check2, check3, check4, check5, check17And6, check7, Walk, reached, twice, intoVacant, chainsVerdict, walked, sheetChecks, sheetVerdict}
+use Rattle.sheet.specs.Format.{lowestLot, mostLots, mostConditions, mostRecords, headerLength, lotCount, conditionCount, recordCount, sheetLength, headAt, vacant}
+use Rattle.sheet.specs.Checks.{wellFormed, member, reachedBy, orElse, firstRefusal, refusesIf, lowestRefusal, check1, check2, check3, check4, check5, check17And6, check7, Walk, reached, twice, intoVacant, chainsVerdict, walked, sheetChecksFrom, sheetVerdict, sheetVerdictFrom}
 
 -- A number that such a check has.
 abbrev pub Number : ℕ → Type 0
@@ -66,9 +66,9 @@ module _ (s : List ℕ) where
   unfolding check4
   four = lowest 4 (omega arith, λ e. omega arith) (λ c. ltb (recordCount s) (headAt s c)) (conditionCount s) 1
 
-  five : Numbered (check5 s)
+  five : Numbered (check5 lowestLot s)
   unfolding check5
-  five = lowest 5 (omega arith, λ e. omega arith) (λ r. not (vacant s r || wellFormed s r)) (recordCount s) 1
+  five = lowest 5 (omega arith, λ e. omega arith) (λ r. not (vacant s r || wellFormed lowestLot s r)) (recordCount s) 1
 
   six : Numbered (check17And6 s)
   unfolding check17And6
@@ -79,12 +79,12 @@ module _ (s : List ℕ) where
   seven = lowest 7 (omega arith, λ e. omega arith) (λ r. not (vacant s r || member r (reachedBy (walked s)))) (recordCount s) 1
 
   pub sheet-numbered : Numbered (sheetVerdict s)
-  unfolding sheetVerdict sheetChecks firstRefusal
+  unfolding sheetVerdictFrom sheetChecksFrom firstRefusal
   sheet-numbered =
       either (check1 s) _ one
       (either (check2 s) _ two
       (either (check3 s) _ three
       (either (check4 s) _ four
-      (either (check5 s) _ five
+      (either (check5 lowestLot s) _ five
       (either (check17And6 s) _ six
       (either (check7 s) Passes seven tt))))))

@@ -12,7 +12,7 @@ use Rattle.sheet.specs.declared.Header.{Header}
 use Rattle.sheet.specs.declared.Term.{Term}
 use Rattle.sheet.specs.declared.Verdict.the-variants.{Passes}
 use Rattle.sheet.specs.declared.Verdict.{Verdict}
-use Rattle.sheet.specs.Format.{sameSign, apartSign, mostLots, mostConditions, mostRecords, headerLength, sheetLength, lotCount, recordCount, signAt, spareAt, firstLotAt, secondLotAt, nextAt}
+use Rattle.sheet.specs.Format.{lowestLot, sameSign, apartSign, mostLots, mostConditions, mostRecords, headerLength, sheetLength, lotCount, recordCount, signAt, spareAt, firstLotAt, secondLotAt, nextAt}
 use Rattle.sheet.specs.Checks.{orElse, firstRefusal, refusesIf, check1, check2, check3, lotInRange, wellFormed, headerChecks}
 use Rattle.sheet.specs.Inner.{headerAt, termRecordAt, signSpareAt}
 
@@ -51,16 +51,16 @@ sign-spare s r = one-number (signAt s r) (spareAt s r)
 abbrev pub recordTests : Header → Term → ℕ → Bool
 recordTests h t x =
     (eqb x sameSign || eqb x apartSign)
-    && (lotInRange (h .lots) (t .a .0)
-    && (lotInRange (h .lots) (t .b .0)
+    && (lotInRange lowestLot (h .lots) (t .a .0)
+    && (lotInRange lowestLot (h .lots) (t .b .0)
     && leb (t .next .0) (h .records)))
 
 pub record-by-tests : (s : List ℕ) (r : ℕ) {h : Header} {t : Term} → h ≡ headerAt s → t ≡ termRecordAt s r
-    → wellFormed s r ≡ recordTests h t (signSpareAt s r)
+    → wellFormed lowestLot s r ≡ recordTests h t (signSpareAt s r)
 unfolding wellFormed
 record-by-tests s r counts term =
     let rest : Bool =
-    lotInRange (lotCount s) (firstLotAt s r) && (lotInRange (lotCount s) (secondLotAt s r) && leb (nextAt s r) (recordCount s)) in
+    lotInRange lowestLot (lotCount s) (firstLotAt s r) && (lotInRange lowestLot (lotCount s) (secondLotAt s r) && leb (nextAt s r) (recordCount s)) in
     rw (counts, term)
     (sym (and-assoc (eqb (signAt s r) sameSign || eqb (signAt s r) apartSign) (eqb (spareAt s r) 0) rest)
     ∙ ap (λ (b : Bool). b && rest) (sign-spare s r))

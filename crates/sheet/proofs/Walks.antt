@@ -9,7 +9,7 @@ use lib.Dec.{eqb}
 use lib.ListN.{length}
 use borrow.Author.Tests.{eq-eqb, ne-eqb}
 use Rattle.sheet.specs.declared.Verdict.the-variants.{Passes}
-use Rattle.sheet.specs.Format.{recordCount, sameSign, apartSign, signAt, nextAt, vacant}
+use Rattle.sheet.specs.Format.{lowestLot, recordCount, sameSign, apartSign, signAt, nextAt, vacant}
 use Rattle.sheet.specs.Checks.{check5, reached, twice, intoVacant, member, walkChain, walkChains}
 use Rattle.sheet.proofs.Distinct.{Distinct, distinct-cons, distinct-length}
 use Rattle.sheet.proofs.Vacant.{vacant-blank}
@@ -27,7 +27,7 @@ vacant-or-linked s r formed = go (vacant s r) refl
     go true e = omega (arith, vacant-blank s r e .next)
     go false e = formed e .next
 
-pub nexts-found : (s : List ℕ) → check5 s ≡ Passes → Linked s
+pub nexts-found : (s : List ℕ) → check5 lowestLot s ≡ Passes → Linked s
 nexts-found s five r low high = vacant-or-linked s r (records-found s five r low high)
 
 -- There the sign tells whether a record is vacant.
@@ -42,7 +42,7 @@ vacant-or-signed s r formed = go (vacant s r) refl
     go true e = eq-eqb _ _ (vacant-blank s r e .sign)
     go false e = ne-eqb _ _ (signed (formed e .sign))
 
-pub signs-tell : (s : List ℕ) → check5 s ≡ Passes → (r : ℕ) → 1 ≤ r → r ≤ recordCount s → eqb (signAt s r) 0 ≡ vacant s r
+pub signs-tell : (s : List ℕ) → check5 lowestLot s ≡ Passes → (r : ℕ) → 1 ≤ r → r ≤ recordCount s → eqb (signAt s r) 0 ≡ vacant s r
 signs-tell s five r low high = vacant-or-signed s r (records-found s five r low high)
 
 -- ---- one chain

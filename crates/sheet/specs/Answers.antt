@@ -5,8 +5,8 @@ use Rattle.sheet.specs.declared.Verdict.{Verdict}
 use Rattle.sheet.specs.declared.Verdict.the-variants.{Passes, Refuses}
 use Rattle.sheet.specs.declared.Reading.{Reading}
 use Rattle.sheet.specs.declared.Reading.the-variants.{Accepted, Refused}
-use Rattle.sheet.specs.Format.{lotCount, conditionCount, recordCount}
-use Rattle.sheet.specs.Checks.{sheetVerdict}
+use Rattle.sheet.specs.Format.{lowestLot, lotCount, conditionCount, recordCount}
+use Rattle.sheet.specs.Checks.{sheetVerdictFrom}
 
 -- A service refuses, with document 01's number of the check and its place; or it answers, with up to three values, the others 0. A service's contract
 -- equates the answer of the case that it returns, so that refusing and answering are told apart, and not by their numbers alone.
@@ -24,9 +24,12 @@ abbrev pub answerOf : Verdict → Answer → Answer
 answerOf Passes answer = answer
 answerOf (Refuses check place) answer = refused check place
 
--- "the reader then answers n, m and k"
-unfoldable pub readAnswer : List ℕ → Answer
-readAnswer s = answerOf (sheetVerdict s) (answered (lotCount s) (conditionCount s) (recordCount s))
+-- "the reader then answers n, m and k": where lots count from `lowest`, and as they do.
+unfoldable pub readAnswerFrom : ℕ → List ℕ → Answer
+readAnswerFrom lowest s = answerOf (sheetVerdictFrom lowest s) (answered (lotCount s) (conditionCount s) (recordCount s))
+
+abbrev pub readAnswer : List ℕ → Answer
+readAnswer s = readAnswerFrom lowestLot s
 
 -- The reader's cases.
 abbrev pub readingAnswer : Reading → Answer

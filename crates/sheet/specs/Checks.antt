@@ -55,22 +55,23 @@ check3 s = refusesIf (not (eqb (length s) (sheetLength (conditionCount s) (recor
 unfoldable pub check4 : List ℕ → Verdict
 check4 s = lowestRefusal 4 (λ c. ltb (recordCount s) (headAt s c)) (conditionCount s) 1
 
--- A lot that a term may name, of n lots.
-abbrev pub lotInRange : ℕ → ℕ → Bool
-lotInRange n lot = leb lowestLot lot && leb lot n
+-- A lot that a term may name, of n lots, where `lowest` is the lowest that it may.
+abbrev pub lotInRange : ℕ → ℕ → ℕ → Bool
+lotInRange lowest n lot = leb lowest lot && leb lot n
 
 -- Sign, spare, both lots and next of record r are in range.
-unfoldable pub wellFormed : List ℕ → ℕ → Bool
-wellFormed s r =
+unfoldable pub wellFormed : ℕ → List ℕ → ℕ → Bool
+wellFormed lowest s r =
     (eqb (signAt s r) sameSign || eqb (signAt s r) apartSign)
     && (eqb (spareAt s r) 0
-    && (lotInRange (lotCount s) (firstLotAt s r)
-    && (lotInRange (lotCount s) (secondLotAt s r)
+    && (lotInRange lowest (lotCount s) (firstLotAt s r)
+    && (lotInRange lowest (lotCount s) (secondLotAt s r)
     && leb (nextAt s r) (recordCount s))))
 
--- "records, rising | 5 | sign, spare or lot out of range, next above k | record". "Checks 5 and 7 pass over vacant records" (document 02).
-unfoldable pub check5 : List ℕ → Verdict
-check5 s = lowestRefusal 5 (λ r. not (vacant s r || wellFormed s r)) (recordCount s) 1
+-- "records, rising | 5 | sign, spare or lot out of range, next above k | record". "Checks 5 and 7 pass over vacant records", "Checks 5 and 11 admit lot 0"
+-- (document 02).
+unfoldable pub check5 : ℕ → List ℕ → Verdict
+check5 lowest s = lowestRefusal 5 (λ r. not (vacant s r || wellFormed lowest s r)) (recordCount s) 1
 
 -- ---- chains: "Each record lies on exactly one chain, once.", but for the vacant ones, which lie on none. Check 17 refuses a vacant record that lies on one,
 -- check 6 a record that lies there twice, check 7 one that isn't vacant and lies on none.
@@ -134,12 +135,18 @@ check7 s = lowestRefusal 7 (λ r. not (vacant s r || member r (reachedBy (walked
 abbrev pub headerChecks : List ℕ → List Verdict
 headerChecks s = check1 s ∷ check2 s ∷ check3 s ∷ []
 
--- "the table's checks on its own bytes, here 1 to 7", with 17
-unfoldable pub sheetChecks : List ℕ → List Verdict
-sheetChecks s = headerChecks s ++ check4 s ∷ check5 s ∷ check17And6 s ∷ check7 s ∷ []
+-- "the table's checks on its own bytes, here 1 to 7", with 17: where lots count from `lowest`, and as they do.
+unfoldable pub sheetChecksFrom : ℕ → List ℕ → List Verdict
+sheetChecksFrom lowest s = headerChecks s ++ check4 s ∷ check5 lowest s ∷ check17And6 s ∷ check7 s ∷ []
 
-unfoldable pub sheetVerdict : List ℕ → Verdict
-sheetVerdict s = firstRefusal (sheetChecks s)
+abbrev pub sheetChecks : List ℕ → List Verdict
+sheetChecks s = sheetChecksFrom lowestLot s
+
+unfoldable pub sheetVerdictFrom : ℕ → List ℕ → Verdict
+sheetVerdictFrom lowest s = firstRefusal (sheetChecksFrom lowest s)
+
+abbrev pub sheetVerdict : List ℕ → Verdict
+sheetVerdict s = sheetVerdictFrom lowestLot s
 
 -- "A sheet is accepted when none of the table's checks on its own bytes, here 1 to 7, refuses it"; with document 02 they are 1 to 7 and 17.
 abbrev pub Accepted : List ℕ → Type 0

@@ -27,14 +27,17 @@ abbrev pub secondLot : Term → ℕ
 secondLot (same a b) = b
 secondLot (apart a b) = b
 
--- A lot that a term may name, of n lots: they "count from 1".
+-- A lot that a term may name, of n lots.
 pub record InLots (n lot : ℕ) : Type 0 where
   pub low : lowestLot ≤ lot
   pub high : lot ≤ n
 
--- Both lots of a term are such.
+-- Both lots of a term are such and such; and such ones.
+abbrev pub BothLots : (ℕ → Type 0) → Term → Type 0
+BothLots P t = P (firstLot t) × P (secondLot t)
+
 abbrev pub TermIn : ℕ → Term → Type 0
-TermIn n t = InLots n (firstLot t) × InLots n (secondLot t)
+TermIn n t = BothLots (InLots n) t
 
 -- The term of record r.
 abbrev pub termAt : List ℕ → ℕ → Term

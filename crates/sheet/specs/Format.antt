@@ -16,9 +16,10 @@ mostConditions = 256
 abbrev pub mostRecords : ℕ
 mostRecords = 1024
 
--- "Lot numbers, condition numbers and record numbers each count from 1": the lowest lot that a term may name.
+-- "Lot numbers, condition numbers and record numbers each count from 1", but "Lot 0 now stands for the hold and may appear in terms and in splits" (document
+-- 02): the lowest lot that a term or a split may name. Definitions that depend on it take it as a parameter; those that services answer by have it fixed here.
 abbrev pub lowestLot : ℕ
-lowestLot = 1
+lowestLot = 0
 
 -- "Bytes 0 to 5: lots n .., conditions m .., term records k .., two bytes each. All may be 0."
 abbrev pub headerLength : ℕ

@@ -3,7 +3,7 @@ ghost use mathlib.Core.Path.{_≡_};
 ghost use mathlib.Core.Bool.{not, _||_};
 ghost use Prim.Native.Nat.{_≤_};
 ghost use lib.Dec.{eqb};
-ghost use Rattle.sheet.specs.Format.{recordCount, sameSign, apartSign, vacant};
+ghost use Rattle.sheet.specs.Format.{lowestLot, recordCount, sameSign, apartSign, vacant};
 ghost use Rattle.sheet.specs.Checks.{firstRefusal, headerChecks, check4, check5, wellFormed};
 ghost use Rattle.sheet.specs.Inner.{HasHeader, HasRecord, Flaggable, headerAt, isFlagged, unflaggedVerdict};
 use crate::APART;
@@ -58,7 +58,7 @@ pub(crate) fn heads(sheet: &[u8], h: Header) -> Verdict
 // Check 5: each record is vacant or well formed.
 pub(crate) fn records(sheet: &[u8], h: Header) -> Verdict
     requires { ⌜ HasHeader (now sheet) h ⌝ }
-    ensures { λ v. ⌜ v ≡ check5 (now (sheet .entry)) ⌝ }
+    ensures { λ v. ⌜ v ≡ check5 lowestLot (now (sheet .entry)) ⌝ }
 {
     let k = h.records;
     let mut r: u16 = 1;
@@ -74,7 +74,7 @@ pub(crate) fn records(sheet: &[u8], h: Header) -> Verdict
 // A record is vacant or well formed. Most are well formed, so that is asked first.
 fn vacant_or_formed(sheet: &[u8], h: Header, r: Record) -> bool
     requires { ⌜ (h ≡ headerAt (now sheet)) × HasRecord (now sheet) (h .conditions) (r .0) ⌝ }
-    ensures { λ b. ⌜ b ≡ (vacant (now (sheet .entry)) (r .0) || wellFormed (now (sheet .entry)) (r .0)) ⌝ }
+    ensures { λ b. ⌜ b ≡ (vacant (now (sheet .entry)) (r .0) || wellFormed lowestLot (now (sheet .entry)) (r .0)) ⌝ }
 {
     if well_formed(sheet, h, r) {
         return true;
@@ -85,7 +85,7 @@ fn vacant_or_formed(sheet: &[u8], h: Header, r: Record) -> bool
 // Sign, spare, both lots and next of a record are in range. Sign and spare are looked at as one number, which is quicker.
 fn well_formed(sheet: &[u8], h: Header, r: Record) -> bool
     requires { ⌜ (h ≡ headerAt (now sheet)) × HasRecord (now sheet) (h .conditions) (r .0) ⌝ }
-    ensures { λ b. ⌜ b ≡ wellFormed (now (sheet .entry)) (r .0) ⌝ }
+    ensures { λ b. ⌜ b ≡ wellFormed lowestLot (now (sheet .entry)) (r .0) ⌝ }
 {
     let t = format::term_at(sheet, h.conditions, r);
     if !sign_known(format::sign_spare_at(sheet, h.conditions, r)) {

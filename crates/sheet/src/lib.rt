@@ -5,10 +5,12 @@ mod checks; // checks.rt: checks 1 to 5 and 7
 mod once; // once.rt: checks 17 and 6, and with them check 7
 
 ghost use mathlib.Core.Path.{_≡_};
+ghost use Rattle.sheet.specs.Format.{lowestLot};
 ghost use Rattle.sheet.specs.Checks.{lotInRange, sheetVerdict};
 ghost use Rattle.sheet.specs.Answers.{readAnswer, readingAnswer};
 
-// Lot numbers, condition numbers and record numbers each count from 1 on their own; none is ever used for another.
+// Lot numbers, condition numbers and record numbers each count from 1 on their own; none is ever used for another. Lot 0 may be named too; a sheet's number of
+// lots doesn't count it.
 pub struct Lot(pub u16);
 
 pub struct Condition(pub u16);
@@ -54,11 +56,11 @@ pub enum Reading {
     },
 }
 
-// Whether a lot is one of n, and so one that a term or a split may name.
+// Whether a lot is lot 0 or one of n, and so one that a term or a split may name.
 pub fn in_lots(n: u16, lot: Lot) -> bool
-    ensures { λ r. ⌜ r ≡ lotInRange n (lot .0) ⌝ }
+    ensures { λ r. ⌜ r ≡ lotInRange lowestLot n (lot .0) ⌝ }
 {
-    1 <= lot.0 && lot.0 <= n
+    lot.0 <= n
 }
 
 // The sheet reader: the header's counts, or the first check that fails, for any bytes at all.

@@ -3,7 +3,7 @@ ghost use mathlib.Core.Path.{_≡_};
 ghost use mathlib.Core.List.{List, []};
 ghost use Prim.Native.Nat.{ℕ, _≤_};
 ghost use Rattle.sheet.specs.declared.Verdict.the-variants.{Passes};
-ghost use Rattle.sheet.specs.Format.{recordCount};
+ghost use Rattle.sheet.specs.Format.{lowestLot, recordCount};
 ghost use Rattle.sheet.specs.Checks.{walked, orElse, check4, check5, check17And6, check7};
 ghost use Rattle.sheet.specs.Inner.{HasHeader, Flags, Walkable, WalkedTo, oneChain};
 use crate::Condition;
@@ -70,7 +70,7 @@ fn reached_once(sheet: &[u8], h: Header, flags: &mut [u8]) -> Verdict
 
 // Checks 17, 6 and 7, once checks 1 to 5 have passed.
 pub(crate) fn check(sheet: &[u8], h: Header) -> Verdict
-    requires { ⌜ HasHeader (now sheet) h × (check4 (now sheet) ≡ Passes) × (check5 (now sheet) ≡ Passes) ⌝ }
+    requires { ⌜ HasHeader (now sheet) h × (check4 (now sheet) ≡ Passes) × (check5 lowestLot (now sheet) ≡ Passes) ⌝ }
     ensures { λ v. ⌜ v ≡ orElse (check17And6 (now (sheet .entry))) (check7 (now (sheet .entry))) ⌝ }
 {
     let k = h.records as usize;

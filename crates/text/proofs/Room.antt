@@ -1,5 +1,5 @@
 -- How long the lines and the texts are at most: every text of the program has room in `textRoom` bytes.
-use Prim.Native.Nat.{ℕ, suc, _+_, _*_, _-_, _^_, _≤_, _<_}
+use Prim.Native.Nat.{ℕ, suc, _+_, _*_, _^_, _≤_, _<_}
 use mathlib.Core.List.{List, [], _∷_, _++_, map, append-nil}
 use mathlib.Core.Path.{_≡_, ap, _∙_}
 use native.Mathlib.Omega.{arith}
@@ -87,10 +87,9 @@ module _ (s : List ℕ) (ok : Accepted s) where
       let lots = sound s ok .header .lots in
       let bytes = groupingBytes (lotCount s) ds in
       let count = grouping-length (lotCount s) ds lots in
-      let within : InLots (lotCount s) (i + 1) = record { low = omega arith; high = omega arith } in
-      let place : i + 1 - 1 ≡ i = omega arith in
-      let number = rw (drop-nil (length bytes), append-nil bytes, place) at (grouping-number (lotCount s) ds [] lots (i + 1) within) in
-      omega (arith, number, least ds (i + 1))
+      let within : InLots (lotCount s) (suc i) = record { low = omega arith; high = omega arith } in
+      let number = rw (drop-nil (length bytes), append-nil bytes) at (grouping-number (lotCount s) ds [] lots (suc i) within) in
+      omega (arith, number, least ds (suc i))
 
   met-line-most : (ds : Decisions) → length (metLine (groupingBytes (lotCount s) ds)) ≤ 516
   unfolding metLine

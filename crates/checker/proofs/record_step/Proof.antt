@@ -2,6 +2,7 @@
 use borrow.Author.Needs.{needs}
 use mathlib.Core.Path.{_≡_, sym, ap, _∙_}
 use native.Mathlib.Omega.{arith}
+use Rattle.sheet.specs.Format.{lowestLot}
 use Rattle.sheet.specs.declared.Verdict.{Verdict}
 use Rattle.sheet.proofs.Accepted.{sound}
 use Rattle.store.specs.declared.NodeRecord as declared
@@ -22,7 +23,7 @@ module _ (c : tie.After-read) where
   -- What a record comes to, at the position,
   abbrev comes-to : WalkRest → Rest → NodeRecord → Verdict
   comes-to walkRest rest =
-      walkRecord (begun .args .sheet .now) walkRest rest (begun .args .at .number) (pathOf (begun .args .path .now) (begun .args .at .depth))
+      walkRecord lowestLot (begun .args .sheet .now) walkRest rest (begun .args .at .number) (pathOf (begun .args .path .now) (begun .args .at .depth))
 
   -- and the record read is the list's.
   record-is : (walkRest : WalkRest) (rest : Rest) (node : declared.NodeRecord) → c .read .result ≡ node

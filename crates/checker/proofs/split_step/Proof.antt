@@ -6,7 +6,7 @@ use mathlib.Core.Bool.{true}
 use mathlib.Core.List.{List}
 use mathlib.Core.Path.{_≡_, sym, ap, _∙_}
 use native.Mathlib.Omega.{arith}
-use Rattle.sheet.specs.Format.{mostLots, lotCount}
+use Rattle.sheet.specs.Format.{lowestLot, mostLots, lotCount}
 use Rattle.sheet.specs.Checks.{lotInRange}
 use Rattle.sheet.proofs.Accepted.{lot-in}
 use Rattle.refutation.specs.Refutation as refutation
@@ -35,24 +35,24 @@ module _ (start : tie.Start) where
   next = start .args .split .next .0
 
   -- A test on a lot by n is one by the sheet's lots.
-  by-sheet : (s : List ℕ) → start .args .n ≡ lotCount s → (lot : ℕ) → lotInRange (lotCount s) lot ≡ lotInRange (start .args .n) lot
-  by-sheet s lots lot = ap (λ (k : ℕ). lotInRange k lot) (sym lots)
+  by-sheet : (s : List ℕ) → start .args .n ≡ lotCount s → (lot : ℕ) → lotInRange lowestLot (lotCount s) lot ≡ lotInRange lowestLot (start .args .n) lot
+  by-sheet s lots lot = ap (λ (k : ℕ). lotInRange lowestLot k lot) (sym lots)
 
   -- A lot in range has an entry in a map.
-  entry : (lot : ℕ) → lotInRange (start .args .n) lot ≡ true → lot ≤ mostLots
+  entry : (lot : ℕ) → lotInRange lowestLot (start .args .n) lot ≡ true → lot ≤ mostLots
   entry lot e = omega (arith, start .pre .1, lot-in (start .args .n) lot .0 e .high)
 
 abbrev begun : tie.Else1 → tie.Start
 begun c = c .before .before .before .before .before
 
 -- Past the tests both lots are the sheet's.
-first : (c : tie.Else1) → lotInRange (begun c .args .n) (a (begun c)) ≡ true
+first : (c : tie.Else1) → lotInRange lowestLot (begun c .args .n) (a (begun c)) ≡ true
 first c = sym (c .before .in-lots .ensures) ∙ not-false _ (c .if1 .left)
 
 abbrev one : tie.Else2 → tie.Else1
 one c = c .before .before
 
-second : (c : tie.Else2) → lotInRange (begun (one c) .args .n) (b (begun (one c))) ≡ true
+second : (c : tie.Else2) → lotInRange lowestLot (begun (one c) .args .n) (b (begun (one c))) ≡ true
 second c = sym (c .before .in-lots2 .ensures) ∙ not-false _ (c .if2 .left)
 
 -- ---- what is asked

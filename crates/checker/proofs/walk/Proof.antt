@@ -6,6 +6,7 @@ use mathlib.Core.List.{List}
 use mathlib.Core.Path.{_≡_, refl, sym, ap, subst, _∙_}
 use native.Mathlib.Omega.{arith}
 use lib.ListN.{length, drop}
+use Rattle.sheet.specs.Format.{lowestLot}
 use Rattle.store.specs.Records.{recordLength, recordsOf}
 use Rattle.refutation.specs.Refutation.{walkFrom, walkVerdict}
 use Rattle.levels.specs.Levels.{Walkable}
@@ -78,11 +79,11 @@ module _ (c : tie.After-record-step Inv-loop μ-loop) where
 
   -- What the step comes to is what the walk does.
   stepped : (v : Step) → c .record-step .result ≡ v
-      → walkVerdict (s turn) (list turn) ≡ stepAs (walkFrom (s turn) (drop (r turn) (recordsOf (list turn)))) (r turn + 1) path v
+      → walkVerdict lowestLot (s turn) (list turn) ≡ stepAs (walkFrom lowestLot (s turn) (drop (r turn) (recordsOf (list turn)))) (r turn + 1) path v
   stepped v told =
       let l = turn .before .loop in
       walking-step (s turn) (list turn) (l .path) path (l .depth) (l .r) (l .inv .2) (l .inv .0) (numbered turn) (c .record-step .result) (c .record-step .ensures .0)
-      ∙ ap (stepAs (walkFrom (s turn) (drop (r turn) (recordsOf (list turn)))) (r turn + 1) path) told
+      ∙ ap (stepAs (walkFrom lowestLot (s turn) (drop (r turn) (recordsOf (list turn)))) (r turn + 1) path) told
 
 abbrev made : tie.After-slice-known8 Inv-loop μ-loop → tie.After-record-step Inv-loop μ-loop
 made c = c .before .before .before .before .before .before .before .before

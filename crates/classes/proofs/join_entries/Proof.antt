@@ -5,8 +5,8 @@ use mathlib.Core.List.{List}
 use mathlib.Core.Path.{_≡_, refl, ap, _∙_}
 use native.Mathlib.Omega.{arith}
 use lib.ListN.{length, getD, set, length-set}
-use Rattle.equality.specs.Node.{merged}
-use Rattle.equality.proofs.Classes.{joinedTo}
+use Rattle.equality.specs.Node.{merged, classOf}
+use Rattle.equality.proofs.Classes.{joinedTo, merged-zero}
 use Rattle.classes.proofs.Rewriting.{rewritten, here, turn-sets, whole}
 use Rattle.classes.proofs.join_entries.Statement.{statement}
 use Rattle.classes.proofs.join_entries.Tie as tie
@@ -52,11 +52,17 @@ loop-again c =
 same-length : tie.Need-same-length Inv-loop μ-loop
 same-length c = search needs
 
-returns : tie.Need-returns Inv-loop μ-loop
+-- After the loop all entries are those of the joined classes, and lot 0's stays 0.
+joins : (lots lots′ : List ℕ) (x y i : ℕ) → length lots ≤ i → lots′ ≡ rewritten (joinedTo x y) i lots → lots′ ≡ merged x y lots
 unfolding merged
+joins lots lots′ x y i end e = e ∙ whole (joinedTo x y) lots i end
+
+returns : tie.Need-returns Inv-loop μ-loop
 returns c =
     let h = c .before in
-    h .loop .inv .2 ∙ whole (joinedTo _ _) (h .before .before .args .lots .now) (h .loop .i) (omega arith)
+    let a = h .before .before .args in
+    let all = joins (a .lots .now) (h .loop .lots) (a .x) (a .y) (h .loop .i) (omega arith) (h .loop .inv .2) in
+    (all, λ zero. ap (λ (l : List ℕ). classOf l 0) all ∙ merged-zero (a .x) (a .y) (a .lots .now) zero)
 
 pub join-entries-spec : {M : Type 1} → statement M
 join-entries-spec =

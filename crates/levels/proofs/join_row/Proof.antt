@@ -51,7 +51,7 @@ returns c =
     let rest = drop (to + entries - to) (drop to copied) in (
       row-put (take to copied) (lent .last .0) rest (level + 1) (above-length copied level len (start .pre .1))
           (lent .kept .0 ∙ ap length part ∙ row-length copied (level + 1) len (omega (arith, start .pre .1)))
-          ∙ lent .ensures
+          ∙ lent .ensures .0
           ∙ ap (merged (start .args .x) (start .args .y)) (part ∙ copy .copy-row .ensures .0),
       (λ k le. rows-above copied level len (start .pre .1) _ k le ∙ copy .copy-row .ensures .1 k le),
     )

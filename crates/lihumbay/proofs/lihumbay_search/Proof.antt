@@ -4,7 +4,7 @@ use mathlib.Core.Path.{ap, _∙_}
 use Rattle.search.specs.Answers.{searchAnswer}
 use Rattle.search.proofs.Promised.{refused-first}
 use Rattle.lihumbay.specs.Answers.{numbersOf}
-use Rattle.lihumbay.proofs.Promised.{nine, one, one-meets, two, two-refutes, bounded}
+use Rattle.lihumbay.proofs.Promised.{nine, one, one-meets, one-zero, two, two-whichever, two-refutes, bounded}
 use Rattle.lihumbay.proofs.lihumbay_search.Statement.{statement}
 use Rattle.lihumbay.proofs.lihumbay_search.Tie as tie
 
@@ -28,7 +28,8 @@ returns c =
     let told = c .of-search .ensures in
     let a = searchAnswer (called .result) in
     let first = refused-first s (begin .grouping .now) (begin .store .now) a (called .ensures .1 .0) in
-    let promised = called .ensures .1 .1 .1 .1 .1 in (
+    let promised = called .ensures .1 .1 .1 .1 .1 in
+    let cases = promised .1 .1 .1 in (
       told ∙ ap numbersOf (called .ensures .1 .0),
       (
         called .ensures .1 .1 .0,
@@ -39,12 +40,18 @@ returns c =
             (
               rw told (one s a first (promised .1 .1 .0)),
               (
-                rw told (one-meets s (called .last .1 .0) a first (promised .1 .1 .1 .0)),
+                rw told (one-meets s (called .last .1 .0) a first (cases .0)),
                 (
-                  rw told (two s a first (promised .1 .1 .1 .1 .0)),
+                  rw told (one-zero s (called .last .1 .0) a first (cases .1 .0)),
                   (
-                    rw told (two-refutes s (called .last .1 .1 .0) a first (promised .1 .1 .1 .1 .1 .0)),
-                    rw told (bounded s a first (promised .1 .1 .1 .1 .1 .1)),
+                    rw told (two s a first (cases .1 .1 .0)),
+                    (
+                      rw told (two-whichever s a first (cases .1 .1 .1 .0)),
+                      (
+                        rw told (two-refutes s (called .last .1 .1 .0) a first (cases .1 .1 .1 .1 .0)),
+                        rw told (bounded s a first (cases .1 .1 .1 .1 .1)),
+                      ),
+                    ),
                   ),
                 ),
               ),

@@ -271,7 +271,7 @@ module _ (t : ℕ) where
       let start = same-begun c in
       let join = joined (noted c) .join in
       subst (λ (k : ℕ). Explored k (written (noted c) .write .last .0) (store₂ c) (start .args .grouping .now) (grouping₂ c) (c .visit .result) tree) (stepped (noted c) .in-same .ensures .1)
-      (c .visit .ensures .0 _ tree (same-standing (at .0) (accepted start) _ _ (at .1) (join .result) (join .ensures)) tt v)
+      (c .visit .ensures .0 _ tree (same-standing (at .0) (accepted start) _ _ (at .1) (join .result) (join .ensures .0)) tt v)
 
   -- for which the condition is settled,
   noted-level : (c : Noted) → c .settle .last .0 ≡ set (begun c .args .levels .now) (begun c .args .on .condition .0 - 1) (begun c .args .at .level + 1)
@@ -334,16 +334,16 @@ module _ (t : ℕ) where
       let path = able start in
       let ok = accepted start in
       let step = stepped d .in-same .ensures in (
-        omega (arith, start .pre .0, same-less (path .standing) ok _ _ (path .splits) (join .result) (join .ensures)),
+        omega (arith, start .pre .0, same-less (path .standing) ok _ _ (path .splits) (join .result) (join .ensures .0)),
         (
           subst (λ (m : ℕ). Searchable (bytes start) m (start .args .grouping .now)) (sym (step .0)) (start .pre .1 .0),
           subst (λ (k : ℕ). Visitable (bytes start) (join .result) Scan (start .args .count) k (start .args .pairs .now) (d .settle .last .0)) (sym (step .2))
               (record {
                 settled =
                     under-settled (bytes start) (start .args .map .lots) (start .args .levels .now) (start .args .on .condition .0) (lot-a start) (lot-b start) (start .args .on .after .0) (start .args .at .level) _
-                    (path .standing .represents .lots) (path .settled) (path .splits) (path .leaves) (join .result .lots) (d .settle .last .0) (join .ensures) (noted-level d);
+                    (path .standing .represents .lots) (path .settled) (path .splits) (path .leaves) (join .result .lots) (d .settle .last .0) (join .ensures .0) (noted-level d);
                 path = _;
-                standing = same-standing (path .standing) ok _ _ (path .splits) (join .result) (join .ensures);
+                standing = same-standing (path .standing) ok _ _ (path .splits) (join .result) (join .ensures .0);
                 resumes = tt;
                 levels = same-level (path .standing) ok _ _ (path .splits) (start .args .at .level) (path .levels);
               }),

@@ -5,6 +5,7 @@ use mathlib.Core.Path.{_≡_, sym, _∙_}
 use borrow.Author.Needs.{needs}
 use Rattle.sheet.specs.declared.Verdict.the-variants.{Passes}
 use Rattle.sheet.specs.declared.Verdict.{Verdict}
+use Rattle.sheet.specs.Format.{lowestLot}
 use Rattle.sheet.specs.Checks.{orElse, firstRefusal, headerChecks, check4, check5, check17And6, check7, sheetVerdict}
 use Rattle.sheet.specs.Inner.{HasHeader}
 use Rattle.sheet.proofs.Verdicts.{passed-on, refused-here}
@@ -17,7 +18,7 @@ abbrev from6 : List ℕ → Verdict
 from6 s = orElse (check17And6 s) (check7 s)
 
 abbrev from5 : List ℕ → Verdict
-from5 s = orElse (check5 s) (from6 s)
+from5 s = orElse (check5 lowestLot s) (from6 s)
 
 abbrev from4 : List ℕ → Verdict
 from4 s = orElse (check4 s) (from5 s)
@@ -41,7 +42,7 @@ has c = rw (c .header-of .ensures) (header-passed (bytes (c .before)) (counted (
 headed : (c : tie.After-enum-told4) → check4 (bytes4 c) ≡ Passes
 headed c = sym (c .before .before .heads .ensures) ∙ c .enum-told4 .given .1
 
-formed : (c : tie.After-enum-told6) → check5 (bytes6 c) ≡ Passes
+formed : (c : tie.After-enum-told6) → check5 lowestLot (bytes6 c) ≡ Passes
 formed c = sym (c .before .before .records .ensures) ∙ c .enum-told6 .given .1
 
 -- What is left of the sheet's verdict there.

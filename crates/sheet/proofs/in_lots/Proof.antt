@@ -1,13 +1,12 @@
--- `sheet::in_lots`: the first test decides, or else the second.
-use borrow.Author.Tests.{le-leb, lt-leb}
+-- `sheet::in_lots`: no lot is below lot 0, so one test decides.
+use native.Mathlib.Omega.{arith}
+use borrow.Author.Tests.{le-leb}
+use Rattle.sheet.specs.Format.{lowestLot}
 use Rattle.sheet.proofs.in_lots.Statement.{statement}
 use Rattle.sheet.proofs.in_lots.Tie as tie
 
 returns : tie.Need-returns
-returns c = simp (le-leb _ _ (c .before .if1 .taken))
-
-returns-2 : tie.Need-returns-2
-returns-2 c = simp (lt-leb _ _ (c .if1 .left))
+returns c = simp (le-leb lowestLot (c .before .args .lot .0) (omega arith))
 
 pub in-lots-spec : {M : Type 1} → statement M
-in-lots-spec = tie.close (tie.spec returns returns-2)
+in-lots-spec = tie.close (tie.spec returns)

@@ -6,7 +6,7 @@ use mathlib.Core.List.{List}
 use mathlib.Core.Path.{sym, ap, _∙_}
 use native.Mathlib.Omega.{arith}
 use borrow.Author.Needs.{needs}
-use Rattle.sheet.specs.Format.{recordCount, vacant}
+use Rattle.sheet.specs.Format.{lowestLot, recordCount, vacant}
 use Rattle.sheet.specs.Checks.{check5, wellFormed}
 use Rattle.sheet.proofs.Loops.{Counting, start, end, refused, passed}
 use Rattle.sheet.proofs.Accepted.{conditions-counted, records-counted, has-record}
@@ -14,7 +14,7 @@ use Rattle.sheet.proofs.checks.records.Statement.{statement}
 use Rattle.sheet.proofs.checks.records.Tie as tie
 
 abbrev badlyFormed : List ℕ → ℕ → Bool
-badlyFormed s r = not (vacant s r || wellFormed s r)
+badlyFormed s r = not (vacant s r || wellFormed lowestLot s r)
 
 abbrev Inv-loop : tie.InvT-loop
 Inv-loop sheet h k r₀ r = Counting 5 (badlyFormed sheet) (recordCount sheet) r

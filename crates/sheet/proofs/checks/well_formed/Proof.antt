@@ -5,7 +5,7 @@ use mathlib.Core.Path.{_≡_, sym, ap, _∙_}
 use lib.Dec.{eqb}
 use borrow.Author.Needs.{needs}
 use borrow.Author.Tests.{not-true, not-false}
-use Rattle.sheet.specs.Format.{sameSign, apartSign}
+use Rattle.sheet.specs.Format.{lowestLot, sameSign, apartSign}
 use Rattle.sheet.specs.Checks.{wellFormed}
 use Rattle.sheet.specs.Inner.{signSpareAt}
 use Rattle.sheet.proofs.Tests.{recordTests, record-by-tests}
@@ -15,7 +15,7 @@ use Rattle.sheet.proofs.checks.well_formed.Tie as tie
 -- Once the term is read, the four tests on it decide.
 by-tests : (c : tie.After-term-at)
     → let a = c .before .before .args in
-    wellFormed (a .sheet .now) (a .r .0) ≡ recordTests (a .h) (c .term-at .result) (signSpareAt (a .sheet .now) (a .r .0))
+    wellFormed lowestLot (a .sheet .now) (a .r .0) ≡ recordTests (a .h) (c .term-at .result) (signSpareAt (a .sheet .now) (a .r .0))
 by-tests c =
     let a = c .before .before in
     record-by-tests (a .args .sheet .now) (a .args .r .0) (a .pre .0) (c .term-at .ensures)
