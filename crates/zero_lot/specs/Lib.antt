@@ -1,0 +1,2 @@
+pub mod Unnamed
+mod Examples
