@@ -1,2 +1,3 @@
 pub mod Sheets
+pub mod ZeroSheets
 pub mod Table

@@ -1,6 +1,6 @@
--- The starred sheets, and those with withdrawn conditions, proved in one go each: from bytes to bytes, by computation.
+-- The starred sheets, those with withdrawn conditions, and those that name lot 0, proved in one go each: from bytes to bytes, by computation.
 use Prim.Native.Nat.{ℕ, zero, suc, _*_}
-use mathlib.Core.List.{List, [], _∷_, map}
+use mathlib.Core.List.{List, [], _∷_, map, flatten}
 use mathlib.Core.Path.{_≡_, refl}
 use lib.ListN.{take}
 use Rattle.buffers.specs.Bytes.{number, twoBytes}
@@ -19,6 +19,7 @@ use Rattle.refutation.specs.Refutation.{groundFails, nearest, walkFrom, check10
 use Rattle.text.specs.Lines.{digits, decimal, line}
 use Rattle.text.specs.Program.{headerLine, recordLine, recordLines, refusedLine, metLine, cannotLine, resultText, printed, printedFrom}
 use Rattle.examples_table.specs.Sheets.{Row, starredRows, withdrawnRows, printedC, printedWithdrawn, sheetA, sheetB, sheetC, sheetD, sheetEmpty, sheetOneHead, sheetSameSame, sheetApartSame, sheetWithdrawn, sheetStillCannot, sheetVacantFirst, sheetTwiceFirst, sheetNotBlanked, sheetNearlyVacant, sheetVacantOnly, rowA, rowB, rowC, rowFull, rowD, rowEmpty, rowOneHead, rowSameSame, rowApartSame, rowWithdrawn, rowStillCannot, rowVacantFirst}
+use Rattle.examples_table.specs.ZeroSheets.{zeroRows, chainedRows, printedZero, zeroSame, zeroApart, zeroBoth, zeroMet, rowZeroSame, rowZeroApart, rowZeroBoth, rowZeroMet, rowChained}
 
 -- A row's outcome, and what the other services say of it: where it is met, the evaluator of the grouping as it is left; where it cannot be met, the
 -- checker of the records written; where it is refused, the refusal.
@@ -65,3 +66,25 @@ pub withdrawn :
     × (printed sheetWithdrawn ≡ printedWithdrawn)
 unfolding withdrawnRows rowWithdrawn rowStillCannot rowVacantFirst printedWithdrawn sheetWithdrawn sheetStillCannot sheetVacantFirst sheetTwiceFirst sheetNotBlanked sheetNearlyVacant sheetVacantOnly readAnswerFrom number twoBytes headAt signAt spareAt firstLotAt secondLotAt nextAt zeroBytes vacant firstRefusal lowestRefusal check1 check2 check3 check4 wellFormed check5 member walkChain walkChains walked check17And6 check7 sheetChecksFrom sheetVerdictFrom chain recordsFrom termsFrom countUp conditions anyTerm someTerm merged classes marked value taken groundOrSplit node isMet afterSame visitNode visit sameTerms allSameTerms searchTree nodeCount metDecisions groupingBytes check8 groupingVerdictFrom lowestUnmet evaluateAnswerFrom records encode ofKind decode recordsOf encodeAll resultOf searchOutcomeFrom groundFails nearest walkFrom check10 walkVerdict listVerdictFrom checkAnswerFrom digits decimal line headerLine recordLine recordLines refusedLine metLine cannotLine resultText printedFrom
 withdrawn = (refl, refl, refl, refl)
+
+-- Likewise with lot 0: it is admitted in both fields of a term and of a split, and a ground's condition 0 isn't; the record of "same 0 0" is vacant but for its
+-- sign, and has a term; in the evaluator lot 0's number is 0, whatever the grouping's bytes are; and lot 0 is printed as any other.
+pub zero-lot :
+    (map computed zeroRows ≡ map expected zeroRows)
+    × (map readAnswer (zeroSame ∷ zeroMet ∷ []) ≡ answered 0 1 1 ∷ answered 2 3 4 ∷ [])
+    × (map (checkAnswer zeroBoth)
+    ((1 ∷ 0 ∷ 1 ∷ 0 ∷ 0 ∷ 0 ∷ 3 ∷ 0 ∷ 2 ∷ 0 ∷ 2 ∷ 0 ∷ 0 ∷ 0 ∷ 0 ∷ 0 ∷ 2 ∷ 0 ∷ 1 ∷ 0 ∷ 0 ∷ 0 ∷ 0 ∷ 0 ∷ [])
+    ∷ (1 ∷ 0 ∷ 0 ∷ 0 ∷ 2 ∷ 0 ∷ 3 ∷ 0 ∷ [])
+    ∷ (1 ∷ 0 ∷ 0 ∷ 0 ∷ 1 ∷ 0 ∷ 3 ∷ 0 ∷ 2 ∷ 0 ∷ 0 ∷ 0 ∷ 0 ∷ 0 ∷ 0 ∷ 0 ∷ [])
+    ∷ [])
+    ≡ answered 0 0 0 ∷ refused 11 1 ∷ refused 11 2 ∷ [])
+    × (map (evaluateAnswer zeroMet) ((0 ∷ 2 ∷ []) ∷ (0 ∷ 7 ∷ 0 ∷ []) ∷ (2 ∷ 2 ∷ []) ∷ (7 ∷ 0 ∷ []) ∷ (0 ∷ 0 ∷ []) ∷ [])
+    ≡ answered 0 0 0 ∷ answered 0 0 0 ∷ answered 1 0 0 ∷ answered 3 0 0 ∷ answered 2 0 0 ∷ [])
+    × (printed zeroMet ≡ printedZero)
+unfolding zeroRows rowZeroSame rowZeroApart rowZeroBoth rowZeroMet printedZero zeroSame zeroApart zeroBoth zeroMet readAnswerFrom number twoBytes headAt signAt spareAt firstLotAt secondLotAt nextAt zeroBytes vacant firstRefusal lowestRefusal check1 check2 check3 check4 wellFormed check5 member walkChain walkChains walked check17And6 check7 sheetChecksFrom sheetVerdictFrom chain recordsFrom termsFrom countUp conditions anyTerm someTerm merged classes marked value taken groundOrSplit node isMet afterSame visitNode visit sameTerms allSameTerms searchTree nodeCount metDecisions groupingBytes check8 groupingVerdictFrom lowestUnmet evaluateAnswerFrom records encode ofKind decode recordsOf encodeAll resultOf searchOutcomeFrom groundFails nearest walkFrom check10 walkVerdict listVerdictFrom checkAnswerFrom digits decimal line headerLine recordLine recordLines refusedLine metLine cannotLine resultText printedFrom
+zero-lot = (refl, refl, refl, refl, refl)
+
+-- And 128 lots that are joined to lot 0 one after the other, from above and from below.
+pub zero-chained : map computed chainedRows ≡ map expected chainedRows
+unfolding flatten chainedRows rowChained number twoBytes headAt signAt spareAt firstLotAt secondLotAt nextAt zeroBytes vacant firstRefusal lowestRefusal check1 check2 check3 check4 wellFormed check5 member walkChain walkChains walked check17And6 check7 sheetChecksFrom sheetVerdictFrom chain recordsFrom termsFrom countUp conditions anyTerm someTerm merged classes marked value taken groundOrSplit node isMet afterSame visitNode visit sameTerms allSameTerms searchTree nodeCount metDecisions groupingBytes check8 groupingVerdictFrom lowestUnmet evaluateAnswerFrom records encode ofKind decode recordsOf encodeAll resultOf searchOutcomeFrom groundFails nearest walkFrom check10 walkVerdict listVerdictFrom checkAnswerFrom digits decimal line headerLine recordLine recordLines refusedLine metLine cannotLine resultText printedFrom
+zero-chained = refl
