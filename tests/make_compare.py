@@ -5,7 +5,8 @@
 #     python3 tests/make_compare.py output > crates/compare/stdout
 #
 # The counts come from this file alone: it generates the same sheets, and has its own reader, search, checker and second solver, written from document 01 and
-# the second request of document 02. Nothing differs where the program is right, and its second solver judges the sheets whose terms name at most six lots.
+# the second and the fifth request of document 02. Nothing differs where the program is right, and its second solver judges the sheets whose terms name at most
+# six lots, lot 0 among them.
 
 import itertools
 import sys
@@ -55,7 +56,7 @@ def read(data):
             records.append(VACANT)
             continue
         sign, spare, a, b, following = data[at], data[at + 1], number(data, at + 2), number(data, at + 4), number(data, at + 6)
-        if sign not in (1, 2) or spare or not 1 <= a <= n or not 1 <= b <= n or following > k:
+        if sign not in (1, 2) or spare or a > n or b > n or following > k:
             return 'refused', 5, r + 1
         records.append((sign, a, b, following))
     seen, conditions = set(), []
@@ -90,7 +91,8 @@ WAYS = {n: list(partitions(n)) for n in range(7)}
 
 
 def can_be_met(conditions):
-    """By trying every way to part the lots that the terms name; None where they name more than six."""
+    """By trying every way to part the lots that the terms name; None where they name more than six. Lot 0 is a lot like others here: a term only asks whether
+    two numbers are equal, and whatever the way, its groups can be given numbers of which that of lot 0 is 0."""
     names = sorted({lot for terms in conditions for term in terms for lot in term[1:]})
     if len(names) > 6:
         return None
@@ -173,7 +175,7 @@ def check(data, nodes):
         if kind not in (1, 2) or spare:
             return 'refused', 11, r
         if kind == 1:
-            if not 1 <= first <= n or not 1 <= second <= n:
+            if first > n or second > n:
                 return 'refused', 11, r
             if len(path) >= 1024:
                 return 'refused', 15, r
@@ -198,7 +200,8 @@ def check(data, nodes):
 # The generated sheets.
 
 def generated(count, relinked=False):
-    """One condition of six is withdrawn. Relinked: a record is made vacant, or a next is set to any record, or both."""
+    """Terms name up to six lots, of 0 to n in half of the sheets and of 1 to n in the others. One condition of six is withdrawn. Relinked: a record is made
+    vacant, or a next is set to any record, or both."""
     state = 1
 
     def below(bound):
@@ -206,11 +209,11 @@ def generated(count, relinked=False):
         state = (state * 1103515245 + 12345) % 2**31
         return state // 65536 % bound
     for _ in range(count):
-        n, m, conditions, drawn = 1 + below(6), 1 + below(8), [], []
+        lowest, lots, m, conditions, drawn = below(2), 1 + below(6), 1 + below(8), [], []
         for c in range(m):
-            conditions.append([(1 if below(5) < 3 else 2, 1 + below(n), 1 + below(n)) for _ in range(1 + below(4))])
+            conditions.append([(1 if below(5) < 3 else 2, lowest + below(lots), lowest + below(lots)) for _ in range(1 + below(4))])
             drawn += [c] * (below(6) == 0)
-        data = sheet(n, conditions)
+        data = sheet(lowest + lots - 1, conditions)
         for c in drawn:
             data = withdrawn(data, c + 1)
         if relinked:
@@ -294,11 +297,23 @@ def changed(data, at, value):
     return data[:at] + bytes([value]) + data[at + 1:]
 
 
+def renamed(data, *lots):
+    """A sheet of three lots with these in their places; lots up to the last of them."""
+    return sheet(max(lots), [[(sign, lots[a - 1], lots[b - 1]) for sign, a, b in terms] for terms in read(data)[2]])
+
+
+def turned(conditions):
+    """The same conditions, with the two lots of each term exchanged."""
+    return [[(sign, b, a) for sign, a, b in terms] for terms in conditions]
+
+
 S, T = 1, 2  # same, apart
 
 A = sheet(3, [[(S, 1, 2)], [(S, 2, 3)], [(T, 1, 3)]])
 C = sheet(3, [[(S, 1, 2), (S, 1, 3)], [(T, 1, 2)]])
 D = sheet(3, [[(T, 1, 2), (T, 2, 3), (T, 3, 1)], [(S, 1, 2), (S, 2, 3)], [(S, 1, 2), (S, 3, 1)], [(S, 2, 3), (S, 3, 1)]])
+
+CHAIN = [[(S, a, a + 1)] for a in range(4)]  # lots 0 to 4, each the same as the next
 
 GROUPS = [
     ('starred', [
@@ -320,9 +335,21 @@ GROUPS = [
     ('refused', [  # by each check in turn, and by the first of two
         b'', C[:5], numbers(129, 257, 1025), numbers(128, 257, 1025), numbers(128, 256, 1025), C[:-1], C + bytes(1),
         changed(C, 6, 4), changed(C, 9, 1), changed(C, 10, 0), changed(C, 18, 3), changed(C, 27, 1),
-        changed(C, 12, 0), changed(C, 13, 1), changed(C, 14, 4), changed(C, 22, 0), changed(C, 24, 4),
+        changed(C, 12, 4), changed(C, 13, 1), changed(C, 14, 4), changed(changed(C, 22, 0), 23, 1), changed(C, 24, 4),
+        changed(changed(C, 12, 0), 14, 4), changed(changed(C, 12, 4), 14, 0), sheet(0, [[(S, 1, 0)]]), sheet(0, [[(S, 0, 1)]]),
         changed(changed(C, 8, 4), 10, 0), changed(changed(C, 10, 0), 18, 0), changed(changed(C, 16, 1), 26, 0),
         changed(C, 16, 1), changed(C, 16, 3), changed(C, 8, 2), changed(C, 8, 1), changed(C, 16, 0), changed(C, 6, 0), changed(C, 8, 0),
+    ]),
+    ('lot 0', [  # alone and with one other lot; in the place of each lot of starred sheets, of few lots and of many; and lots joined to it, from either side
+        *[sheet(n, [[(sign, 0, 0)]]) for n in (0, 1, 128) for sign in (S, T)], sheet(0, [[(S, 0, 0)], [(T, 0, 0)]]), sheet(0, [[(T, 0, 0), (S, 0, 0)]]),
+        *[sheet(1, [[(sign, *pair)]]) for sign in (S, T) for pair in ((0, 1), (1, 0))],
+        sheet(1, [[(S, 0, 1)], [(T, 1, 0)]]), sheet(1, [[(S, 1, 0)], [(T, 0, 1)]]), sheet(128, [[(S, 0, 128)], [(T, 128, 0)]]),
+        *[renamed(data, *lots) for data in (A, C, D) for lots in ((0, 1, 2), (1, 0, 2), (2, 1, 0), (0, 77, 128), (128, 0, 5), (127, 128, 0))],
+        sheet(4, CHAIN), sheet(4, CHAIN[::-1]), sheet(4, turned(CHAIN)), sheet(4, turned(CHAIN)[::-1]),
+        *[sheet(4, conditions + [[(T, 4, 0)]]) for conditions in (CHAIN, CHAIN[::-1], turned(CHAIN), turned(CHAIN)[::-1])],
+        *[sheet(4, [[(S, 1, 2)], [(S, 4, 3)], [(S, a, 0)], [(S, 0, b)], [(T, 1, 3)]]) for a, b in ((1, 3), (2, 4), (4, 2))],
+        sheet(5, [[(S, 1, 5), (S, 0, 5), (S, 5, 2)], [(T, 5, 1)], [(T, 0, 5)], [(S, 2, 0), (S, 5, 3)]]),
+        sheet(128, [[(S, 0, lot)] for lot in range(1, 129)]), sheet(128, [[(S, lot, lot - 1)] for lot in range(128, 0, -1)]),
     ]),
     ('withdrawn', [  # some conditions of starred sheets, in the middle and at both ends, and all of them; a refutation that goes on around withdrawn ones
         *[withdrawn(A, c) for c in (1, 2, 3)], *[withdrawn(C, c) for c in (1, 2)], *[withdrawn(D, c) for c in (1, 2, 3, 4)],
@@ -330,7 +357,9 @@ GROUPS = [
         sheet(3, [[], [(S, 1, 2)], [], [(S, 2, 3)], [(T, 1, 3)], []]),
         withdrawn(sheet(3, [[(S, 1, 3)], [(S, 1, 2)], [(T, 1, 1)], [(S, 2, 3)], [(T, 1, 3)]]), 1, 3),
     ]),
-    ('vacant', [  # between the records of a chain, and where there are no conditions and no lots; then bytes that are not all zero, and records not blanked
+    # Between the records of a chain, and where there are no conditions and no lots; then bytes that are not all zero, the first time a sign, which makes the
+    # record a term of lot 0 that no chain reaches; and records not blanked.
+    ('vacant', [
         own_records(3, [2], [(0, 0, 0, 0), (S, 1, 2, 4), (0, 0, 0, 0), (T, 1, 2, 0)]), own_records(1, [3], [(0, 0, 0, 0), (0, 0, 0, 0), (T, 1, 1, 0)]),
         numbers(3, 0, 2) + bytes(16), numbers(0, 0, 1) + bytes(8), numbers(0, 1, 1) + bytes(10),
         *[changed(withdrawn(C, 1), 10 + i, 1) for i in range(8)],
@@ -453,9 +482,16 @@ def write_output():
     for damage, label in zip(damages, ('damaged lists', 'damaged sheets', 'withdrawn conditions')):
         print(damage.line(label))
     print('ground of a withdrawn condition: %s' % said(check(sheet(1, [[]]), list_bytes([[2, 1, 0, 0]]))))
+    print('ground of condition 0: %s' % said(check(sheet(1, [[(T, 1, 1)]]), list_bytes([[2, 0, 0, 0]]))))
+    for a, b in ((0, 0), (0, 1), (1, 0)):
+        print('split of lots %d and %d where n is 0: %s' % (a, b, said(check(sheet(0, [[(T, 0, 0)]]), list_bytes([[1, a, b, 3], [2, 1, 0, 0], [2, 1, 0, 0]])))))
     for s in (1024, 1025):
         print('splits on a path %d: %s' % (s, said(check(sheet(1, [[(T, 1, 1)]]), list_bytes(many_splits(s))))))
 
+
+# Lot 0 is no flaw, and every sheet of the group of refusals has one.
+assert all(read(data)[0] == 'accepted' for name, sheets in GROUPS if name == 'lot 0' for data in sheets)
+assert all(read(data)[0] == 'refused' for name, sheets in GROUPS if name == 'refused' for data in sheets)
 
 # A program that took the wrong turn would answer these sheets otherwise.
 TURNS = {name: [read(data)[2] for data in sheets] for name, sheets in GROUPS if name in ('withdrawn', 'mark on lots', 'join stays', 'one ground')}

@@ -1,5 +1,5 @@
-// Sheets from a fixed generator of numbers, each with 1 to 6 lots and 1 to 8 conditions of 1 to 4 terms, one condition of six withdrawn. The records of a
-// condition follow each other, in the order of the conditions.
+// Sheets from a fixed generator of numbers. Each has 1 to 8 conditions of 1 to 4 terms, which name up to six lots, of 0 to n in half of the sheets and of 1 to
+// n in the others. One condition of six is withdrawn. The records of a condition follow each other, in the order of the conditions.
 use crate::blanks;
 use crate::raw;
 
@@ -28,6 +28,15 @@ fn from_one(state: u64, bound: u16) -> u16 {
     if x < 32768 { x + 1 } else { 1 }
 }
 
+// One of so many lots, from lot 0 or from lot 1 on.
+fn lot(state: u64, zero: bool, count: u16) -> u16 {
+    if zero {
+        below(state, count)
+    } else {
+        from_one(state, count)
+    }
+}
+
 fn put_term(sheet: &mut [u8], m: u16, r: u16, sign: u8, a: u16, b: u16, next: u16) {
     raw::put(sheet, raw::term_field(m, r, 0), sign);
     raw::put(sheet, raw::term_field(m, r, 1), 0);
@@ -41,8 +50,16 @@ fn sign_of(state: u64) -> u8 {
     if below(state, 5) < 3 { 1 } else { 2 }
 }
 
-// A term, as record r, from a state on; the state after it.
-fn make_term(sheet: &mut [u8], n: u16, m: u16, r: u16, next: u16, state: u64) -> u64 {
+// A term, as record r, from a state on; the state after it. It names some of so many lots, from lot 0 or from lot 1 on.
+fn make_term(
+    sheet: &mut [u8],
+    zero: bool,
+    count: u16,
+    m: u16,
+    r: u16,
+    next: u16,
+    state: u64,
+) -> u64 {
     let sign = following(state);
     let a = following(sign);
     let b = following(a);
@@ -51,33 +68,33 @@ fn make_term(sheet: &mut [u8], n: u16, m: u16, r: u16, next: u16, state: u64) ->
         m,
         r,
         sign_of(sign),
-        from_one(a, n),
-        from_one(b, n),
+        lot(a, zero, count),
+        lot(b, zero, count),
         next,
     );
     b
 }
 
 // A term more, at the record after those that are made; the last of its chain or not.
-fn add_term(sheet: &mut [u8], n: u16, m: u16, made: Made, last: bool) -> Made {
+fn add_term(sheet: &mut [u8], zero: bool, count: u16, m: u16, made: Made, last: bool) -> Made {
     if 1023 < made.terms {
         return made;
     }
     let r = made.terms + 1;
     let next = if last { 0 } else { r + 1 };
     Made {
-        state: make_term(sheet, n, m, r, next, made.state),
+        state: make_term(sheet, zero, count, m, r, next, made.state),
         terms: r,
     }
 }
 
 // So many terms of one condition.
-fn add_terms(sheet: &mut [u8], n: u16, m: u16, count: u16, first: Made) -> Made {
+fn add_terms(sheet: &mut [u8], zero: bool, count: u16, m: u16, terms: u16, first: Made) -> Made {
     let mut made = first;
-    let mut left = count;
+    let mut left = terms;
     while 0 < left {
         left -= 1;
-        made = add_term(sheet, n, m, made, left == 0);
+        made = add_term(sheet, zero, count, m, made, left == 0);
     }
     made
 }
@@ -90,7 +107,7 @@ fn draw(sheet: &mut [u8], m: u16, c: u16, state: u64) {
 }
 
 // A condition more: its head, and its terms; it may be withdrawn at once.
-fn add_condition(sheet: &mut [u8], n: u16, m: u16, c: u16, made: Made) -> Made {
+fn add_condition(sheet: &mut [u8], zero: bool, count: u16, m: u16, c: u16, made: Made) -> Made {
     if 1023 < made.terms {
         return made;
     }
@@ -100,7 +117,7 @@ fn add_condition(sheet: &mut [u8], n: u16, m: u16, c: u16, made: Made) -> Made {
         state: chosen,
         terms: made.terms,
     };
-    let added = add_terms(sheet, n, m, from_one(chosen, 4), first);
+    let added = add_terms(sheet, zero, count, m, from_one(chosen, 4), first);
     let drawn = following(added.state);
     draw(sheet, m, c, drawn);
     Made {
@@ -109,25 +126,26 @@ fn add_condition(sheet: &mut [u8], n: u16, m: u16, c: u16, made: Made) -> Made {
     }
 }
 
-// All m conditions of n lots, one after the other.
-fn add_conditions(sheet: &mut [u8], n: u16, m: u16, state: u64) -> Made {
+// All m conditions, one after the other.
+fn add_conditions(sheet: &mut [u8], zero: bool, count: u16, m: u16, state: u64) -> Made {
     let mut made = Made { state, terms: 0 };
     let mut c: u16 = 0;
     while c < m {
-        made = add_condition(sheet, n, m, c, made);
+        made = add_condition(sheet, zero, count, m, c, made);
         c += 1;
     }
     made
 }
 
-// The sheet from a state on, at the start of the bytes; the state after it.
+// The sheet from a state on, at the start of the bytes; the state after it. Its n is the last of the lots that terms may name.
 pub fn sheet_from(sheet: &mut [u8], state: u64) -> u64 {
-    let lots = following(state);
+    let lowest = following(state);
+    let lots = following(lowest);
     let conditions = following(lots);
-    let n = from_one(lots, 6);
+    let zero = below(lowest, 2) == 0;
     let m = from_one(conditions, 8);
-    let made = add_conditions(sheet, n, m, conditions);
-    raw::put_number(sheet, 0, n);
+    let made = add_conditions(sheet, zero, from_one(lots, 6), m, conditions);
+    raw::put_number(sheet, 0, lot(lots, zero, 6));
     raw::put_number(sheet, 2, m);
     raw::put_number(sheet, 4, made.terms);
     made.state

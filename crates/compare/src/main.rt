@@ -23,14 +23,14 @@ mod partitions; // partitions.rt: the second solver
 mod raw; // raw.rt: bytes and two-byte numbers
 mod say; // say.rt: the lines of the output
 mod services; // services.rt: search, checker and evaluator
-mod splits; // splits.rt: lists with many splits on a path
+mod splits; // splits.rt: lists with splits on a path, and grounds alone
 mod table; // table.rt: checks 1 to 8 and 17, a second time
 mod tally; // tally.rt: what is counted
 
 use libc::STDIN_FILENO;
 
 fn main() {
-    let mut text = [0u8; 32768];
+    let mut text = [0u8; 49152];
     let n = io::read_full(STDIN_FILENO, &mut text);
     let generated = groups::generated_groups();
     let counts = groups::lines(&text[..n], generated);
@@ -38,6 +38,10 @@ fn main() {
     say::damage(b"damaged sheets", counts.sheets);
     say::damage(b"withdrawn conditions", counts.withdrawn);
     say::ground_of_withdrawn();
+    say::ground_of_zero();
+    say::split(0, 0);
+    say::split(0, 1);
+    say::split(1, 0);
     say::splits(1024);
     say::splits(1025);
 }

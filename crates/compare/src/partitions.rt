@@ -1,6 +1,9 @@
 // The second solver: every way to part the lots that a sheet's terms name, six at most, each asked of the conditions as they stand in the sheet's bytes; what
 // the other lots do matters to no term. It has nothing in common with the search, the checker and the evaluator, nor with what they stand on.
 //
+// Lot 0 is a lot like others here, although every assignment gives it the number 0: a term only asks whether two numbers are equal, and whatever the way, its
+// groups can be given numbers of which that of lot 0 is 0.
+//
 // A way is a group for each name, the first one's 0, each other at most one more than the highest before it: so no way comes twice.
 use crate::raw;
 
@@ -48,7 +51,7 @@ fn name_lots(sheet: &[u8], m: u16, k: u16, names: &mut [u8]) -> usize {
     count
 }
 
-// The group of a lot that is named.
+// The group of a lot that is named. Places without a name are 0 and come last, so that lot 0, where it is named, is found at its own.
 fn group_of(names: &[u8], groups: &[u8], lot: u16) -> u8 {
     raw::byte_at(groups, bytes::scan::find(names, 0, names.len(), short(lot)))
 }

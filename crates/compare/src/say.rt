@@ -51,6 +51,22 @@ pub fn ground_of_withdrawn() {
     checked(answer);
 }
 
+// A ground that names condition 0: unlike lot 0, there is none.
+pub fn ground_of_zero() {
+    let answer = splits::ground_of_zero();
+    io::write_all(STDOUT_FILENO, b"ground of condition 0");
+    checked(answer);
+}
+
+// A split of these lots, for a sheet that has none but lot 0.
+pub fn split(a: u16, b: u16) {
+    let answer = splits::split_of(a, b);
+    field(b"split of lots ", a as u32);
+    field(b" and ", b as u32);
+    io::write_all(STDOUT_FILENO, b" where n is 0");
+    checked(answer);
+}
+
 // A list with so many splits on a path.
 pub fn splits(s: u16)
     requires { ⌜ s ≤ 1025 ⌝ }

@@ -1,4 +1,5 @@
-// Lists with many splits on a path, and one ground alone. The sheet of the former has one lot and the condition "apart 1 1", so that every ground passes.
+// Lists with many splits on a path, with one split, and with one ground alone. Where there are splits, the sheet has one condition, "apart 1 1" or "apart 0 0",
+// so that every ground passes.
 ghost use Prim.Native.Nat.{_≤_};
 use crate::raw;
 use crate::services;
@@ -55,4 +56,21 @@ pub fn splits_on_a_path(s: u16) -> Answer
 // What the checker says of a ground that names the one condition of its sheet, which is withdrawn.
 pub fn ground_of_withdrawn() -> Answer {
     services::checked(&[1u8, 0, 1, 0, 0, 0, 0, 0], &[2u8, 0, 1, 0, 0, 0, 0, 0])
+}
+
+// What the checker says of a ground that names condition 0, which no sheet has.
+pub fn ground_of_zero() -> Answer {
+    services::checked(
+        &[1u8, 0, 1, 0, 1, 0, 1, 0, 2, 0, 1, 0, 1, 0, 0, 0],
+        &[2u8, 0, 0, 0, 0, 0, 0, 0],
+    )
+}
+
+// What the checker says of one split of these lots, where the sheet's n is 0.
+pub fn split_of(a: u16, b: u16) -> Answer {
+    let mut list = [0u8; 24];
+    put_node(&mut list, 1, 1, a, b, 3);
+    put_node(&mut list, 2, 2, 1, 0, 0);
+    put_node(&mut list, 3, 2, 1, 0, 0);
+    services::checked(&[0u8, 0, 1, 0, 1, 0, 1, 0, 2, 0, 0, 0, 0, 0, 0, 0], &list)
 }

@@ -1,5 +1,5 @@
-// Checks 1 to 8 and 17, stated a second time: from document 01's table and document 02's second request, over the bytes as they stand. It has nothing in
-// common with the reader.
+// Checks 1 to 8 and 17, stated a second time: from document 01's table and document 02's second and fifth requests, over the bytes as they stand. It has
+// nothing in common with the reader.
 use crate::raw;
 use crate::services::Answer;
 
@@ -29,7 +29,7 @@ fn head_above(sheet: &[u8], m: u16, k: u16) -> u16 {
     0
 }
 
-// Of check 5: whether sign, spare, lots and next of a record are in range.
+// Of check 5: whether sign, spare, lots and next of a record are in range. A lot is one of 0 to n.
 fn in_range(sheet: &[u8], n: u16, m: u16, k: u16, r: u16) -> bool {
     let sign = raw::byte_at(sheet, raw::term_field(m, r, 0));
     let spare = raw::byte_at(sheet, raw::term_field(m, r, 1));
@@ -37,8 +37,7 @@ fn in_range(sheet: &[u8], n: u16, m: u16, k: u16, r: u16) -> bool {
     let b = raw::number_at(sheet, raw::term_field(m, r, 4));
     let next = raw::number_at(sheet, raw::term_field(m, r, 6));
     let known = (sign == 1) | (sign == 2);
-    let named = (0 < a) & (a <= n) & (0 < b) & (b <= n);
-    known & (spare == 0) & named & (next <= k)
+    known & (spare == 0) & (a <= n) & (b <= n) & (next <= k)
 }
 
 // Whether a record is vacant: its eight bytes are zero.

@@ -7,10 +7,10 @@ use Rattle.compare.proofs.generate.add_conditions.Statement.{statement}
 use Rattle.compare.proofs.generate.add_conditions.Tie as tie
 
 abbrev Inv-loop : tie.InvT-loop
-Inv-loop sheet₀ n m state made₀ c₀ sheet made c = (length sheet ≡ length sheet₀) × (c ≤ m)
+Inv-loop sheet₀ zero count m state made₀ c₀ sheet made c = (length sheet ≡ length sheet₀) × (c ≤ m)
 
 abbrev μ-loop : tie.MeasureT-loop
-μ-loop sheet₀ n m state made₀ c₀ sheet made c = m - c
+μ-loop sheet₀ zero count m state made₀ c₀ sheet made c = m - c
 
 loop-holds : tie.Need-loop-holds Inv-loop μ-loop
 loop-holds c = search needs

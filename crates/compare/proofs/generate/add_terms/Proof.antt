@@ -6,10 +6,10 @@ use Rattle.compare.proofs.generate.add_terms.Statement.{statement}
 use Rattle.compare.proofs.generate.add_terms.Tie as tie
 
 abbrev Inv-loop : tie.InvT-loop
-Inv-loop sheet₀ n m count made₀ left₀ sheet made left = length sheet ≡ length sheet₀
+Inv-loop sheet₀ zero count m terms made₀ left₀ sheet made left = length sheet ≡ length sheet₀
 
 abbrev μ-loop : tie.MeasureT-loop
-μ-loop sheet₀ n m count made₀ left₀ sheet made left = left
+μ-loop sheet₀ zero count m terms made₀ left₀ sheet made left = left
 
 loop-holds : tie.Need-loop-holds Inv-loop μ-loop
 loop-holds c = search needs
