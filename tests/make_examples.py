@@ -4,8 +4,9 @@
 #     python3 tests/make_examples.py > crates/print_examples/stdin
 #
 # The cases are the starred sheets of document 01 (but for "C with S = 3": the program has 7,000 records, and the row stands in the proved table), sheets with
-# withdrawn conditions and vacant records, a refusal by each of checks 1 to 7 and 17 and by a full store, sheets with no lots and with the most, and phe(5) and
-# circ(5) of source document 001, part 7. Nothing here searches: what the program is to print for these stands in crates/print_examples/stdout.
+# withdrawn conditions and vacant records, sheets that name lot 0, a refusal by each of checks 1 to 7 and 17 and by a full store, sheets with no lots and with
+# the most, and phe(5) and circ(5) of source document 001, part 7. Nothing here searches: what the program is to print for these stands in
+# crates/print_examples/stdout.
 
 
 def numbers(*values):
@@ -83,6 +84,20 @@ CASES = [
     ('A behind a withdrawn condition', sheet(3, ['', 'same 1 2', 'same 2 3', 'apart 1 3'])),
     ('a vacant record before the only term', numbers(1, 1, 2) + numbers(2) + bytes(8) + bytes([1, 0]) + numbers(1, 1, 0)),
     ('no lots and conditions, two vacant records', numbers(0, 0, 2) + bytes(16)),
+    ('same 0 0', sheet(0, ['same 0 0'])),
+    ('apart 0 0', sheet(0, ['apart 0 0'])),
+    ('same 0 1', sheet(1, ['same 0 1'])),
+    ('apart 1 0', sheet(1, ['apart 1 0'])),
+    ('same 0 1; apart 1 0', sheet(1, ['same 0 1', 'apart 1 0'])),
+    ('A, lot 0 for lot 2', sheet(3, ['same 1 0', 'same 0 3', 'apart 1 3'])),
+    ('C, lots 0 to 2 for 1 to 3', sheet(2, ['same 0 1 or same 0 2', 'apart 0 1'])),
+    ('C, lot 0 for lot 2', sheet(3, ['same 1 0 or same 1 3', 'apart 1 0'])),
+    ('a class marked apart from that of lot 0', sheet(3, ['apart 0 1', 'same 2 0', 'same 2 1 or same 3 1'])),
+    ('two classes joined by lot 0', sheet(5, ['same 1 2', 'same 5 4', 'same 4 0', 'same 0 2'])),
+    ('lots 8 to 1, each the same as lot 0', sheet(9, ['same 0 %d' % lot for lot in range(8, 0, -1)])),
+    ('lots 128 to 1, each the same as the one below it', sheet(128, ['same %d %d' % (lot, lot - 1) for lot in range(128, 0, -1)])),
+    ('C, record 2 all zero but for the sign', changed(blanked(C, 2), 18, 1)),
+    ('a vacant record before same 0 0', numbers(0, 1, 2) + numbers(2) + bytes(8) + bytes([1, 0]) + numbers(0, 0, 0)),
     ('128 lots, no condition', sheet(128, [])),
     ('check 1, five bytes', C[:5]),
     ('check 2, 129 lots', sheet(129, [])),
@@ -90,6 +105,7 @@ CASES = [
     ('check 4, head 2 of C above k', changed(C, 8, 4)),
     ('check 5, sign 3 in record 2 of C', changed(C, 18, 3)),
     ('check 5, record 2 of C all zero but for the last byte', changed(blanked(C, 2), 25, 1)),
+    ('check 5, lot 1 beside lot 0 without lots', sheet(0, ['same 0 1'])),
     ('check 17, a next of C on a vacant record', blanked(C, 2)),
     ('check 17, a head of C on a vacant record', blanked(C, 3)),
     ('check 6, a next that is its own record', numbers(1, 1, 1) + numbers(1) + bytes([1, 0]) + numbers(1, 1, 1)),

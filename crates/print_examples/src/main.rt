@@ -3,14 +3,14 @@
 //     LABEL: HEX..
 //
 // The sheet's bytes are in hexadecimal; blanks may stand anywhere among the digits. Standard output has the label on a line of its own and then the
-// printed text. There is room for 8,192 bytes of cases and 1,024 of a sheet, which is plenty for these. tests/make_examples.py writes the input.
+// printed text. There is room for 16,384 bytes of cases and 2,048 of a sheet, which is plenty for these. tests/make_examples.py writes the input.
 ghost use Prim.Native.Nat.{_<_, _≤_};
 ghost use lib.ListN.{length};
 use libc::STDIN_FILENO;
 use libc::STDOUT_FILENO;
 
 fn main() {
-    let mut cases = [0u8; 8192];
+    let mut cases = [0u8; 16384];
     let n = io::read_full(STDIN_FILENO, &mut cases);
     print_all(&cases[..n]);
 }
@@ -37,7 +37,7 @@ fn print_case(cases: &[u8], at: usize) -> usize
 
 // The text of the sheet that a line has in hexadecimal.
 fn print_sheet(digits: &[u8]) {
-    let mut sheet = [0u8; 1024];
+    let mut sheet = [0u8; 2048];
     let mut out = [0u8; text::TEXT_ROOM];
     let n = hex::decode(digits, &mut sheet);
     let len = text::print(&sheet[..n], &mut out);
