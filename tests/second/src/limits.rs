@@ -2,6 +2,8 @@
 
 /// "lots n (at most 128)"
 pub const MOST_LOTS: usize = 128;
+/// Document 02: "Lot 0 now stands for the hold and may appear in terms and in splits". n doesn't count it.
+pub const ZERO_LOT: usize = 0;
 /// "conditions m (at most 256)"
 pub const MOST_CONDITIONS: usize = 256;
 /// "term records k (at most 1,024)"

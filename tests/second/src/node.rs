@@ -1,4 +1,5 @@
 //! One node of the search: decisions, classes, the truth of a term, and what the node is.
+use crate::limits::ZERO_LOT;
 use crate::sheet::{Lot, Sheet, Sign, Term, is_withdrawn};
 
 /// "A node has a list of decisions: pairs set same and pairs set apart."
@@ -15,10 +16,10 @@ pub enum Truth {
     Open,
 }
 
-/// What a list of decisions says about the lots 1 to n.
+/// What a list of decisions says about the lots 0 to n.
 pub struct Known {
     lots: usize,
-    /// Entry i: the smallest lot of lot i's class. Entry 0 is not used.
+    /// Entry i: the smallest lot of lot i's class. Document 02: "The smallest lot of a consignment may thus be 0".
     class: Vec<Lot>,
     /// Entry a * (n + 1) + b: the classes with smallest lots a and b are marked apart.
     marked: Vec<bool>,
@@ -28,7 +29,7 @@ impl Known {
     /// "The same pairs split the lots into consignments; each is known by its smallest lot."
     pub fn from(lots: usize, decisions: &[Decision]) -> Known {
         let side = lots + 1;
-        let mut known = Known { lots, class: (0..=lots).collect(), marked: vec![false; side * side] };
+        let mut known = Known { lots, class: (ZERO_LOT..=lots).collect(), marked: vec![false; side * side] };
         for decision in decisions {
             if let Decision::Same(a, b) = *decision {
                 known.join(a, b);
@@ -42,10 +43,10 @@ impl Known {
         known
     }
 
-    /// "Joining two consignments gives every lot of both the smaller of the two numbers."
+    /// "Joining two consignments gives every lot of both the smaller of the two numbers." Lot 0 is among the lots, and its number is smaller than any other.
     fn join(&mut self, a: Lot, b: Lot) {
         let (one, other) = (self.class[a], self.class[b]);
-        for lot in 1..=self.lots {
+        for lot in ZERO_LOT..=self.lots {
             if self.class[lot] == one || self.class[lot] == other {
                 self.class[lot] = one.min(other);
             }

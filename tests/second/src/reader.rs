@@ -10,7 +10,7 @@ pub fn read(bytes: &[u8]) -> Result<Answer, Refusal> {
     Ok(Answer::Accepted { lots: sheet.lots, conditions: sheet.conditions.len(), terms: sheet.records })
 }
 
-/// The bytes of a sheet with its three counts. Condition, record and lot numbers count from 1.
+/// The bytes of a sheet with its three counts. Condition and record numbers count from 1, lots from 0.
 struct Raw<'a> {
     bytes: &'a [u8],
     lots: usize,
@@ -101,7 +101,8 @@ fn heads(raw: &Raw) -> Result<(), Refusal> {
     Ok(())
 }
 
-/// 5: "records, rising", "sign, spare or lot out of range, next above k", place the record. Document 02: "Checks 5 and 7 pass over vacant records".
+/// 5: "records, rising", "sign, spare or lot out of range, next above k", place the record. Document 02: "Checks 5 and 7 pass over vacant records", "Checks 5
+/// and 11 admit lot 0."
 fn records(raw: &Raw) -> Result<(), Refusal> {
     for record in 1..=raw.records {
         if raw.is_vacant(record) {
@@ -110,7 +111,7 @@ fn records(raw: &Raw) -> Result<(), Refusal> {
         let term = raw.term(record);
         let sign = term.sign == SAME || term.sign == APART;
         let spare = term.spare == 0;
-        let lots = (1..=raw.lots).contains(&term.a) && (1..=raw.lots).contains(&term.b);
+        let lots = (ZERO_LOT..=raw.lots).contains(&term.a) && (ZERO_LOT..=raw.lots).contains(&term.b);
         let next = term.next <= raw.records;
         if !(sign && spare && lots && next) {
             return refuse(5, record);

@@ -63,9 +63,10 @@ impl Walk<'_> {
         if record.kind == SPLIT { self.split(number, &record) } else { self.ground(number, &record) }
     }
 
-    /// 11: "kind, spare, lot or condition out of range; second or next of a ground not 0", place the record.
+    /// 11: "kind, spare, lot or condition out of range; second or next of a ground not 0", place the record. Document 02: "Checks 5 and 11 admit lot 0." There
+    /// is no condition 0.
     fn in_range(&self, record: &Record) -> bool {
-        let lot = |lot: u16| (1..=self.sheet.lots).contains(&usize::from(lot));
+        let lot = |lot: u16| (ZERO_LOT..=self.sheet.lots).contains(&usize::from(lot));
         let condition = |condition: u16| (1..=self.sheet.conditions.len()).contains(&usize::from(condition));
         let fields = match record.kind {
             SPLIT => lot(record.first) && lot(record.second),

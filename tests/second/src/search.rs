@@ -60,7 +60,7 @@ impl Run<'_> {
         let known = Known::from(self.sheet.lots, &self.decisions);
         match node(self.sheet, &known) {
             Node::Met => {
-                // "Each lot's byte in the grouping is the smallest lot of its consignment."
+                // "Each lot's byte in the grouping is the smallest lot of its consignment." Document 02: "The grouping still has n bytes, for lots 1 to n."
                 self.grouping = (1..=self.sheet.lots).map(|lot| known.smallest(lot) as u8).collect();
                 self.record(MET, 0, 0);
                 End::Met

@@ -1,6 +1,6 @@
 //! An accepted sheet: its conditions, each the terms of its chain in the chain's order.
 
-/// "Lot numbers ... count from 1".
+/// "Lot numbers ... count from 1". Document 02: "Lot 0 now stands for the hold and may appear in terms and in splits".
 pub type Lot = usize;
 
 #[derive(Clone, Copy, Debug, PartialEq, Eq)]
@@ -18,6 +18,7 @@ pub struct Term {
 
 #[derive(Clone, Debug, PartialEq, Eq)]
 pub struct Sheet {
+    /// n: the lots are 1 to n, and beside them there is always lot 0.
     pub lots: usize,
     /// The term records, of which some may be vacant: "k, read or printed, still counts them".
     pub records: usize,

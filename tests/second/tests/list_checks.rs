@@ -62,7 +62,7 @@ fn fields_out_of_range() {
     }
     refused(&with(2, Record { spare: 1, ..split(2, 3, 4) }), 11, 2);
     refused(&with(3, Record { spare: 1, ..ground(3) }), 11, 3);
-    for (a, b) in [(0, 1), (1, 0), (4, 1), (1, 4), (257, 1)] {
+    for (a, b) in [(4, 1), (1, 4), (4, 0), (0, 4), (257, 1), (1, 257), (256, 1), (1, 256)] {
         refused(&with(1, split(a, b, 5)), 11, 1);
     }
     for condition in [0, 4, 259] {

@@ -52,7 +52,7 @@ fn heads() {
 
 #[test]
 fn records() {
-    let faults = [(10, 0), (10, 3), (11, 1), (12, 0), (12, 3), (13, 1), (14, 0), (14, 3), (15, 1), (16, 4), (17, 1)];
+    let faults = [(10, 0), (10, 3), (11, 1), (12, 3), (13, 1), (14, 3), (15, 1), (16, 4), (17, 1)];
     for (at, value) in faults {
         refused(&with(&[(at, value)]), 5, 1);
         refused(&with(&[(at + 16, value)]), 5, 3);
@@ -101,11 +101,15 @@ fn vacant_records_are_passed_over_and_counted() {
 
 #[test]
 fn a_vacant_record_is_zero_in_all_eight_bytes() {
-    for at in 26..34 {
+    let with_one = |at: usize, value: u8| {
         let mut bytes = blanked([1, 0], &[3]);
-        bytes[at] = 1;
-        refused(&bytes, 5, 3);
-    }
+        bytes[at] = value;
+        bytes
+    };
+    (27..34).for_each(|at| refused(&with_one(at, 1), 5, 3));
+    [3, 4, 255].iter().for_each(|&sign| refused(&with_one(26, sign), 5, 3));
+    // With a sign that there is, it is a term on lot 0, twice: in range, and no chain reaches it.
+    [1, 2].iter().for_each(|&sign| refused(&with_one(26, sign), 7, 3));
 }
 
 #[test]
