@@ -1,7 +1,7 @@
 //! The classes of input: valid and damaged sheets, groupings, stores, and refutations of every hand.
 use crate::case::{Case, grouping, out_length, probe, store_length};
 use crate::damage::{Damaged, list_fault};
-use crate::families::{DEEPEST, bytes, deep, joined, marked, wide, wide_and_met, wide_and_met_count, wide_count};
+use crate::families::{DEEPEST, bytes, deep, joined, lowered, marked, wide, wide_and_met, wide_and_met_count, wide_count};
 use crate::lists;
 use crate::random::Random;
 use crate::run::Class;
@@ -9,7 +9,7 @@ use crate::sheets;
 use crate::tree::{Tree, grow};
 use second::limits::{MOST_SPLITS_ABOVE, NODE_LENGTH};
 use second::reader::accept;
-use second::sheet::Sheet;
+use second::sheet::{Sheet, Term};
 use second::store::{Record, list_bytes};
 use second::writer::{apart, sheet_bytes};
 
@@ -64,19 +64,26 @@ fn wide_family(random: &mut Random, _: usize) -> Case {
         true => (wide(&widths), wide_count(&widths)),
         false => (wide_and_met(&widths), wide_and_met_count(&widths)),
     };
-    let mut case = Case::of(bytes(&conditions), random);
+    let mut case = Case::of(bytes(&with_zero_lot(conditions, random.chance(50))), random);
     case.store_length = NODE_LENGTH * random.pick(&[count - 1, count, count + 1]) + random.below(NODE_LENGTH);
     case
 }
 
-/// Paths of up to 1,023 splits, and of 127 joins.
+/// The conditions, or their like with lot 0 for lot 1.
+fn with_zero_lot(conditions: Vec<Vec<Term>>, zero: bool) -> Vec<Vec<Term>> {
+    if zero { lowered(&conditions) } else { conditions }
+}
+
+/// Paths of up to 1,023 splits, and of 127 joins; half of them with lot 0, which is one lot more: up to 128 joins, and 129 classes.
 fn deep_family(random: &mut Random, number: usize) -> Case {
+    let zero = random.chance(50);
+    let more = usize::from(zero);
     let (conditions, lots) = match number % 3 {
-        0 => (joined(random.range(100, 128)), 128),
-        1 => (deep(46, random.range(1000, DEEPEST), random), 46),
-        _ => (deep(128, DEEPEST - number % 4, random), 128),
+        0 => (joined(random.range(100, 128) + more), 128),
+        1 => (deep(46 + more, random.range(1000, DEEPEST), random), 46),
+        _ => (deep(128 + more, DEEPEST - number % 4, random), 128),
     };
-    let sheet = sheets::write_in_some_order(lots, &conditions, random);
+    let sheet = sheets::write_in_some_order(lots, &with_zero_lot(conditions, zero), random);
     let found = probe(&sheet, 3000);
     let store_length = NODE_LENGTH * random.pick(&[found.count(), found.count() - 1, found.count() + 1]);
     Case { grouping: grouping(lots, random), store_length, list: found.nodes, fill: 0xFF, out_length: out_length(&sheet, random), sheet }
@@ -86,7 +93,7 @@ fn deep_family(random: &mut Random, number: usize) -> Case {
 fn sheet_with_marks(random: &mut Random) -> Vec<u8> {
     let lots = random.range(6, 16);
     let (pairs, terms) = (random.pick(&[4, 15, 31, 32, 33, 63, 64, 65, 90]), random.range(1, 40));
-    let conditions = marked(lots, pairs, terms, random);
+    let conditions = with_zero_lot(marked(lots, pairs, terms, random), random.chance(50));
     sheets::write_in_some_order(lots + 4, &conditions, random)
 }
 
@@ -228,9 +235,11 @@ fn faulty_other_hand(random: &mut Random, _: usize) -> Case {
 }
 
 /// Lots, and a sheet whose condition 1 is false under every path, so that the records alone decide. Condition 2 is withdrawn: no ground that names it passes.
+/// Some have no lots: lot 0 is in range there, and nothing else.
 fn nobody_meets(random: &mut Random) -> (usize, Vec<u8>) {
-    let lots = random.range(1, 4);
-    let condition = if random.chance(50) { vec![apart(lots, lots)] } else { vec![apart(1, 1), apart(lots, lots)] };
+    let lots = random.range(0, 4);
+    let first = random.below(2).min(lots);
+    let condition = if random.chance(50) { vec![apart(lots, lots)] } else { vec![apart(first, first), apart(lots, lots)] };
     (lots, sheet_bytes(lots, &[condition, vec![]]))
 }
 
@@ -243,13 +252,14 @@ fn any_list(random: &mut Random, number: usize) -> Case {
     with_list(sheet, list, random)
 }
 
-/// Spines with 1,022 to 1,026 splits, in same branches, apart branches or both; half of them with a fault.
+/// Spines with 1,022 to 1,026 splits, in same branches, apart branches or both; half of them with a fault, and half with splits that name lot 0.
 fn deep_list(random: &mut Random, number: usize) -> Case {
     let (lots, sheet) = nobody_meets(random);
     let depth = MOST_SPLITS_ABOVE - 2 + random.below(5);
     let percent = random.pick(&[0, 50, 100]);
     let directions: Vec<bool> = (0..depth).map(|_| random.chance(percent)).collect();
-    let mut list = list_bytes(&lists::spine(lots, &directions, random));
+    let lowest = random.below(2).min(lots);
+    let mut list = list_bytes(&lists::spine(&(lowest..=lots), &directions, random));
     if number.is_multiple_of(2) {
         list_fault(&mut list, lots, 2, random);
     }

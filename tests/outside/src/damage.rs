@@ -84,13 +84,14 @@ impl Damaged {
         }
     }
 
+    /// Above n, lot 0, or another lot.
     fn lot(&self, random: &mut Random) -> usize {
         match random.below(5) {
-            0 => 0,
+            0 => ZERO_LOT,
             1 => self.lots + 1,
             2 => 256 + random.range(0, self.lots),
             3 => random.below(1 << 16),
-            _ => random.range(0, self.lots),
+            _ => random.range(ZERO_LOT, self.lots),
         }
     }
 
@@ -110,7 +111,8 @@ impl Damaged {
         }
     }
 
-    /// A record blanked, wholly or but for one byte, while the chain that had it stays; or a head that is zero, or leads elsewhere, while its records stay.
+    /// A record blanked, wholly or but for one byte, while the chain that had it stays; or a head that is zero, or leads elsewhere, while its records stay. A
+    /// record whose one byte is a sign is a term on lot 0 twice.
     fn a_blank(&mut self, random: &mut Random) {
         let at = self.record(random.range(1, self.terms));
         (at..at + TERM_LENGTH).for_each(|byte| self.set_byte(byte, 0));
@@ -150,13 +152,13 @@ impl Damaged {
 
     /// A whole record more that no chain reaches, with a next of its own: also into a circle.
     fn an_unreached_record(&mut self, random: &mut Random) {
-        if self.terms == MOST_TERMS || self.lots == 0 {
+        if self.terms == MOST_TERMS {
             return;
         }
         self.terms += 1;
         let any = random.range(1, self.terms);
         let next = random.pick(&[0, self.terms, any]) as u16;
-        let lot = random.range(1, self.lots) as u8;
+        let lot = random.range(ZERO_LOT, self.lots) as u8;
         self.bytes.extend([1, 0, lot, 0, lot, 0, next as u8, (next >> 8) as u8]);
         self.set(4, self.terms);
     }

@@ -38,6 +38,13 @@ pub fn bytes(conditions: &[Vec<Term>]) -> Vec<u8> {
     sheet_bytes(lots(conditions), conditions)
 }
 
+/// The same conditions with every lot's number one less, so that lot 1 becomes lot 0: the search goes the same way, since the order of the lots is the same. No
+/// term has lot 0 beforehand.
+pub fn lowered(conditions: &[Vec<Term>]) -> Vec<Vec<Term>> {
+    let lower = |term: &Term| Term { sign: term.sign, a: term.a - 1, b: term.b - 1 };
+    conditions.iter().map(|condition| condition.iter().map(lower).collect()).collect()
+}
+
 /// The nodes of `wide`: under each of w splits the rest, and a ground where all w are apart.
 pub fn wide_count(widths: &[usize]) -> usize {
     widths.iter().rev().fold(1, |rest, width| width * (1 + rest) + 1)
@@ -68,8 +75,8 @@ pub fn joined(lots: usize) -> Vec<Vec<Term>> {
     conditions
 }
 
-/// A first condition multiplies nodes, the next sets up to `pairs` random pairs apart, and one further has `terms` over these pairs, with an "apart" term that is false
-/// and now and then a pair of its own: at many nodes terms are false by many pairs. Joins before them give some of the lots another class.
+/// A first condition multiplies nodes, the next sets up to `pairs` random pairs apart, and one further has `terms` over these pairs, with an "apart" term that
+/// is false and now and then a pair of its own: at many nodes terms are false by many pairs. Joins before them give some of the lots another class.
 pub fn marked(lots: usize, pairs: usize, terms: usize, random: &mut Random) -> Vec<Vec<Term>> {
     let mut all: Vec<(usize, usize)> = (1..=lots).flat_map(|a| (1..a).map(move |b| (a, b))).collect();
     random.shuffle(&mut all);

@@ -3,11 +3,12 @@ use crate::canonical::canonical_laws;
 use crate::case::Case;
 use crate::compare::{Repacked, Searched, plain, repacked, repacked_on, searched};
 use lihumbay::raw;
-use second::limits::NODE_LENGTH;
+use second::limits::{MOST_LOTS, NODE_LENGTH, SPLIT, ZERO_LOT};
+use second::store::Record;
 use std::hint::black_box;
 
 const PASSES: [u32; 4] = [0, 0, 0, 0];
-/// Up to this many lots, every grouping is tried.
+/// Up to this many lots beside lot 0, every grouping is tried.
 const FEW_LOTS: usize = 5;
 
 /// Every law, on the answers and buffers of one case.
@@ -18,6 +19,7 @@ pub fn laws(case: &Case) -> Result<(), String> {
     twice(case, &found, &repacked)?;
     surrounded(case, &repacked)?;
     verdict(case, &found)?;
+    zero_lot(case, &found)?;
     untouched(case, &found)?;
     output_untouched(case, &repacked)?;
     brute_force(case, &found)?;
@@ -77,6 +79,38 @@ fn verdict(case: &Case, found: &Searched) -> Result<(), String> {
     }
 }
 
+/// Met: a lot's byte is 0 exactly where the pairs set same above the met node lead from it to lot 0.
+fn zero_lot(case: &Case, found: &Searched) -> Result<(), String> {
+    let [0, 1, _, _] = found.answer else { return Ok(()) };
+    let pairs = same_pairs(&found.store);
+    let mut reached = [false; MOST_LOTS + 1];
+    reached[ZERO_LOT] = true;
+    while let Some(&(a, b)) = pairs.iter().find(|&&(a, b)| reached[a] != reached[b]) {
+        (reached[a], reached[b]) = (true, true);
+    }
+    let lots = usize::from(case.sheet[0]);
+    match (1..=lots).find(|&lot| (found.grouping[lot - 1] == 0) != reached[lot]) {
+        None => Ok(()),
+        Some(lot) => Err(format!("lot {lot} is with lot 0: {}; its byte is {}", reached[lot], found.grouping[lot - 1])),
+    }
+}
+
+/// The pairs set same above the met node: a split above it whose next is 0 is in its same branch, any other in its apart branch, which begins at next.
+fn same_pairs(store: &[u8]) -> Vec<(usize, usize)> {
+    let (mut pairs, mut number) = (Vec::new(), 1);
+    loop {
+        let record = Record::from_bytes(&store[NODE_LENGTH * (number - 1)..NODE_LENGTH * number]);
+        match (record.kind, usize::from(record.next)) {
+            (SPLIT, 0) => {
+                pairs.push((usize::from(record.first), usize::from(record.second)));
+                number += 1;
+            }
+            (SPLIT, next) => number = next,
+            _ => return pairs,
+        }
+    }
+}
+
 /// Bytes that are not to be written have what they had.
 fn untouched(case: &Case, found: &Searched) -> Result<(), String> {
     let (grouping_written, store_written) = match found.answer {
@@ -118,7 +152,7 @@ fn brute_force(case: &Case, found: &Searched) -> Result<(), String> {
     if some == (verdict == 1) { Ok(()) } else { Err(format!("the search says {verdict}, but some grouping meets the sheet: {some}")) }
 }
 
-/// Every way to split the lots into classes, each class known by its smallest lot.
+/// Every way to split the lots, lot 0 among them, into classes, each class known by its smallest lot: the bytes of lots 1 to n.
 pub fn groupings(lots: usize) -> Vec<Vec<u8>> {
     let mut all = vec![vec![]];
     for lot in 1..=lots as u8 {
@@ -128,10 +162,9 @@ pub fn groupings(lots: usize) -> Vec<Vec<u8>> {
 }
 
 fn one_lot_more(grouping: &[u8], lot: u8) -> Vec<Vec<u8>> {
-    let mut choices: Vec<u8> = grouping.to_vec();
+    let mut choices: Vec<u8> = [grouping, &[0, lot]].concat();
     choices.sort_unstable();
     choices.dedup();
-    choices.push(lot);
     choices.into_iter().map(|choice| [grouping, &[choice]].concat()).collect()
 }
 
@@ -142,6 +175,6 @@ mod tests {
     #[test]
     fn there_are_as_many_groupings_as_partitions() {
         let counts: Vec<usize> = (0..=5).map(|lots| groupings(lots).len()).collect();
-        assert_eq!(counts, [1, 1, 2, 5, 15, 52]);
+        assert_eq!(counts, [1, 2, 5, 15, 52, 203], "partitions of one lot more, since lot 0 is one of them");
     }
 }

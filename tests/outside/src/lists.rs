@@ -2,15 +2,16 @@
 use crate::random::Random;
 use crate::tree::{ground, split};
 use second::store::Record;
+use std::ops::RangeInclusive;
 
 /// A list whose last path has one split for each entry: `true`, the path goes on in the split's same branch and its apart branch is a ground; `false`, the
-/// other way round. Every ground names condition 1, every split a random pair.
-pub fn spine(lots: usize, directions: &[bool], random: &mut Random) -> Vec<Record> {
+/// other way round. Every ground names condition 1, every split a random pair of these lots.
+pub fn spine(lots: &RangeInclusive<usize>, directions: &[bool], random: &mut Random) -> Vec<Record> {
     let mut records = Vec::new();
     let mut waiting = Vec::new();
     for &goes_on_in_same in directions {
         let at = records.len();
-        records.push(split(random.range(1, lots), random.range(1, lots), 0));
+        records.push(any_split(lots, random));
         if goes_on_in_same {
             waiting.push(at);
         } else {
@@ -27,22 +28,27 @@ pub fn spine(lots: usize, directions: &[bool], random: &mut Random) -> Vec<Recor
 }
 
 /// The complete tree with `levels` splits on each path: 2^(levels + 1) - 1 records.
-pub fn complete(lots: usize, levels: usize, random: &mut Random) -> Vec<Record> {
+pub fn complete(lots: &RangeInclusive<usize>, levels: usize, random: &mut Random) -> Vec<Record> {
     let mut records = Vec::new();
     complete_under(lots, levels, random, &mut records);
     records
 }
 
-fn complete_under(lots: usize, levels: usize, random: &mut Random, records: &mut Vec<Record>) {
+fn complete_under(lots: &RangeInclusive<usize>, levels: usize, random: &mut Random, records: &mut Vec<Record>) {
     if levels == 0 {
         records.push(ground(1));
         return;
     }
     let at = records.len();
-    records.push(split(random.range(1, lots), random.range(1, lots), 0));
+    records.push(any_split(lots, random));
     complete_under(lots, levels - 1, random, records);
     records[at].next = (records.len() + 1) as u16;
     complete_under(lots, levels - 1, random, records);
+}
+
+/// A split on any two of these lots, next left open.
+fn any_split(lots: &RangeInclusive<usize>, random: &mut Random) -> Record {
+    split(random.within(lots), random.within(lots), 0)
 }
 
 /// Records with fields mostly in range, in no order.
@@ -54,7 +60,10 @@ pub fn any_record(lots: usize, conditions: usize, number: usize, random: &mut Ra
     match random.below(20) {
         0 => Record { kind: random.byte(), ..ground(random.below(conditions + 2)) },
         1 => Record { kind: 3, ..ground(0) },
-        2..=10 => split(random.below(lots + 1), random.range(1, lots + 1), number + random.below(4)),
+        2 => split(random.below(lots + 2), random.below(lots + 2), number + random.below(4)),
+        3..=6 => split(random.below(lots + 1), random.below(lots + 1), number + random.below(4)),
+        7..=10 if lots > 0 => split(random.range(1, lots), random.range(1, lots + 1), number + random.below(4)),
+        11 => ground(0),
         _ => ground(random.range(1, conditions + 1)),
     }
 }

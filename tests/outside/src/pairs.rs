@@ -5,6 +5,7 @@ use crate::sheets::write_in_some_order;
 use second::limits::{MOST_CONDITIONS, MOST_LOTS, MOST_TERMS};
 use second::sheet::{Sign, Term};
 use second::writer::{apart, same};
+use std::ops::RangeInclusive;
 
 pub type Conditions = Vec<Vec<Term>>;
 
@@ -13,11 +14,13 @@ pub struct Pair {
     pub second: Vec<u8>,
 }
 
-/// Few lots and few different conditions, so that most are repeats, within a sheet and across.
+/// Few lots and few different conditions, so that most are repeats, within a sheet and across. Half of the pairs have lot 0 among their lots, and of these some
+/// have no other.
 pub fn small(random: &mut Random) -> Pair {
-    let lots = random.range(1, 4);
+    let lowest = random.below(2);
+    let lots = random.range(lowest, 4);
     let (count, longest) = (random.range(1, 4), random.range(1, 4));
-    let mut pool: Conditions = (0..count).map(|_| condition(lots, longest, random)).collect();
+    let mut pool: Conditions = (0..count).map(|_| condition(&(lowest..=lots), longest, random)).collect();
     let alike: Conditions = (0..random.below(4)).map(|_| nearly(&pool[random.below(count)], random)).collect();
     pool.extend(alike);
     let mut sheet = |most: usize| {
@@ -32,8 +35,8 @@ pub fn large(random: &mut Random) -> Pair {
     let different = random.pick(&[40, 150, 256, 257, 258, 300, 400]);
     let longest = random.pick(&[1, 3, 7, 7, 8, 12, 60]);
     // Half of the pools have their terms on few lots, so that conditions have long beginnings in common.
-    let lots = random.pick(&[2, MOST_LOTS]);
-    let mut pool: Conditions = (0..different).map(|_| condition(lots, longest, random)).collect();
+    let (lowest, lots) = (random.below(2), random.pick(&[2, MOST_LOTS]));
+    let mut pool: Conditions = (0..different).map(|_| condition(&(lowest..=lots), longest, random)).collect();
     random.shuffle(&mut pool);
     let mut sheet = |start: usize| {
         let drawn = within_limits(pool.iter().cycle().skip(start).take(random.range(different / 2, different)), random);
@@ -84,13 +87,13 @@ fn with_fault(sheet: Vec<u8>, random: &mut Random) -> Vec<u8> {
 }
 
 /// A condition of up to so many terms; now and then a withdrawn one.
-fn condition(lots: usize, longest: usize, random: &mut Random) -> Vec<Term> {
+fn condition(lots: &RangeInclusive<usize>, longest: usize, random: &mut Random) -> Vec<Term> {
     let length = if random.chance(8) { 0 } else { random.range(1, longest) };
     (0..length).map(|_| term(lots, random)).collect()
 }
 
-fn term(lots: usize, random: &mut Random) -> Term {
-    let (a, b) = (random.range(1, lots), random.range(1, lots));
+fn term(lots: &RangeInclusive<usize>, random: &mut Random) -> Term {
+    let (a, b) = (random.within(lots), random.within(lots));
     if random.chance(50) { same(a, b) } else { apart(a, b) }
 }
 

@@ -1,4 +1,5 @@
 //! A small fixed generator (splitmix64): the same seed gives the same input on every machine.
+use std::ops::RangeInclusive;
 
 pub struct Random(u64);
 
@@ -23,6 +24,11 @@ impl Random {
     /// A number from `low` to `high`, both included.
     pub fn range(&mut self, low: usize, high: usize) -> usize {
         low + self.below(high - low + 1)
+    }
+
+    /// A number of this range.
+    pub fn within(&mut self, range: &RangeInclusive<usize>) -> usize {
+        self.range(*range.start(), *range.end())
     }
 
     pub fn chance(&mut self, percent: usize) -> bool {

@@ -31,7 +31,7 @@ pub fn run_one(class: &Class, number: usize, tally: &mut Tally) {
     let seed = seed(class.name, number);
     let case = (class.make)(&mut Random::new(seed), number);
     match compare_and_laws(&case) {
-        Ok(answers) => tally.answers(&answers),
+        Ok(answers) => tally.case(&case, &answers),
         Err(difference) => panic!("class \"{}\", case {number}, seed {seed:#x}: {difference}\n{case}", class.name),
     }
 }
@@ -39,7 +39,7 @@ pub fn run_one(class: &Class, number: usize, tally: &mut Tally) {
 /// A case that no seed made.
 pub fn run_case(case: &Case, tally: &mut Tally) {
     match compare_and_laws(case) {
-        Ok(answers) => tally.answers(&answers),
+        Ok(answers) => tally.case(case, &answers),
         Err(difference) => panic!("{difference}\n{case}"),
     }
 }

@@ -1,8 +1,8 @@
 //! Valid sheets of all sizes.
 use crate::case::probe;
 use crate::random::Random;
-use second::limits::{MOST_CONDITIONS, MOST_LOTS, MOST_TERMS};
-use second::sheet::Term;
+use second::limits::{MOST_CONDITIONS, MOST_LOTS, MOST_TERMS, ZERO_LOT};
+use second::sheet::{Lot, Term};
 use second::writer::{apart, same, sheet_bytes_among};
 
 /// What random conditions look like.
@@ -12,8 +12,9 @@ pub struct Shape {
     /// At most this many terms in all, and in one condition.
     pub terms: usize,
     pub longest: usize,
-    /// Percentages: "same" terms, a lot twice in a term, a term that stood before, withdrawn conditions.
+    /// Percentages: "same" terms, lot 0 in a field of a term, a lot twice in a term, a term that stood before, withdrawn conditions.
     pub same: usize,
+    pub zero: usize,
     pub twice: usize,
     pub repeated: usize,
     pub withdrawn: usize,
@@ -29,6 +30,7 @@ pub fn tiny(random: &mut Random) -> Vec<u8> {
         terms: 12,
         longest: 3,
         same: random.range(20, 100),
+        zero: random.pick(&[0, 0, 10, 30, 60]),
         twice: 10,
         repeated: 10,
         withdrawn: if random.chance(30) { 20 } else { 0 },
@@ -45,6 +47,7 @@ pub fn small(random: &mut Random) -> Vec<u8> {
         terms: 60,
         longest: random.range(1, 4),
         same: random.range(30, 90),
+        zero: random.pick(&[0, 0, 10, 30]),
         twice: random.pick(&[0, 0, 5]),
         repeated: 10,
         withdrawn: random.pick(&[0, 0, 0, 15]),
@@ -61,6 +64,7 @@ pub fn medium(random: &mut Random) -> Vec<u8> {
         terms: 300,
         longest: random.range(2, 8),
         same: random.range(40, 100),
+        zero: random.pick(&[0, 0, 3, 20]),
         twice: random.below(4),
         repeated: 5,
         withdrawn: random.pick(&[0, 0, 1, 10]),
@@ -78,6 +82,7 @@ pub fn dense(random: &mut Random) -> Vec<u8> {
         terms: 300,
         longest: random.range(3, 4),
         same: random.range(55, 75),
+        zero: random.pick(&[0, 0, 7, 15]),
         twice: 0,
         repeated: 3,
         withdrawn: random.pick(&[0, 0, 3]),
@@ -94,6 +99,7 @@ pub fn large(random: &mut Random) -> Vec<u8> {
         terms: random.pick(&[MOST_TERMS, MOST_TERMS, 1023, 600]),
         longest: random.pick(&[4, 5, 40, MOST_TERMS]),
         same: random.pick(&[50, 70, 90, 100]),
+        zero: random.pick(&[0, 0, 1, 10, 50]),
         twice: random.pick(&[0, 0, 3]),
         repeated: random.pick(&[0, 5]),
         withdrawn: random.pick(&[0, 0, 1, 20]),
@@ -147,7 +153,7 @@ fn conditions(shape: &Shape, random: &mut Random) -> Vec<Vec<Term>> {
             break;
         }
         let length = match () {
-            _ if shape.lots == 0 || left == 0 || random.chance(shape.withdrawn) => 0,
+            _ if (shape.lots == 0 && shape.zero == 0) || left == 0 || random.chance(shape.withdrawn) => 0,
             _ if shape.all && number == shape.conditions => left,
             _ => random.range(1, shape.longest.min(left)),
         };
@@ -162,10 +168,15 @@ fn term(shape: &Shape, before: &[Term], random: &mut Random) -> Term {
     if !before.is_empty() && random.chance(shape.repeated) {
         return random.pick(before);
     }
-    let a = random.range(1, shape.lots);
-    let mut b = random.range(1, shape.lots);
+    let a = lot(shape, random);
+    let mut b = lot(shape, random);
     if a == b && shape.lots > 1 && !random.chance(shape.twice) {
         b = a % shape.lots + 1;
     }
     if random.chance(shape.same) { same(a, b) } else { apart(a, b) }
+}
+
+/// With no lots, a term can name lot 0 alone.
+fn lot(shape: &Shape, random: &mut Random) -> Lot {
+    if shape.lots == 0 || random.chance(shape.zero) { ZERO_LOT } else { random.range(1, shape.lots) }
 }

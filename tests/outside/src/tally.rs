@@ -1,5 +1,9 @@
-//! How many inputs of each class there were, and how often each answer was seen.
+//! How many inputs of each class there were, how often each answer was seen, and how often lot 0 played a part.
+use crate::case::Case;
 use crate::compare::Answers;
+use second::limits::{NODE_LENGTH, SPLIT, ZERO_LOT};
+use second::reader::accept;
+use second::store::Record;
 use std::collections::BTreeMap;
 use std::fmt::Write;
 
@@ -11,6 +15,15 @@ pub struct Tally {
     running: [usize; 3],
     answers: BTreeMap<(&'static str, String), usize>,
     checks: BTreeMap<(&'static str, u32), usize>,
+    zero: ZeroLot,
+}
+
+/// Of what was accepted, how many named lot 0 and how many did not: sheets that a search met, sheets that it could not, and refutations that passed.
+#[derive(Clone, Copy, Debug, Default)]
+pub struct ZeroLot {
+    pub met: [usize; 2],
+    pub cannot: [usize; 2],
+    pub passed: [usize; 2],
 }
 
 impl Tally {
@@ -18,7 +31,7 @@ impl Tally {
         self.classes.push((name, count, std::mem::take(&mut self.running)));
     }
 
-    pub fn answers(&mut self, answers: &Answers) {
+    fn answers(&mut self, answers: &Answers) {
         self.answer("reader", &answers.read, "accepted".into());
         let verdict = if answers.search[1] == 1 { "met" } else { "cannot" };
         match answers.search {
@@ -32,6 +45,23 @@ impl Tally {
         self.answer("evaluator", &answers.evaluate, evaluated.into());
         self.answer("checker", &answers.check, "passes".into());
         self.answer("repacker", &answers.repack, "written".into());
+    }
+
+    /// A case, with what the services answered.
+    pub fn case(&mut self, case: &Case, answers: &Answers) {
+        self.answers(answers);
+        match answers.search {
+            [0, 1, ..] => self.zero.met[without_zero(sheet_names_zero(&case.sheet))] += 1,
+            [0, 2, ..] => self.zero.cannot[without_zero(sheet_names_zero(&case.sheet))] += 1,
+            _ => {}
+        }
+        if answers.check == [0; 4] {
+            self.zero.passed[without_zero(list_names_zero(&case.list))] += 1;
+        }
+    }
+
+    pub fn zero_lot(&self) -> ZeroLot {
+        self.zero
     }
 
     fn answer(&mut self, service: &'static str, numbers: &[u32; 4], accepted: String) {
@@ -54,9 +84,28 @@ impl Tally {
         for (name, count, [met, cannot, full]) in &self.classes {
             writeln!(text, "  {count:8} {name} (met {met}, cannot {cannot}, store full {full})").expect("a string takes all");
         }
+        let ZeroLot { met, cannot, passed } = self.zero;
+        for (what, [with, without]) in [("sheets met", met), ("sheets that cannot be", cannot), ("lists that pass", passed)] {
+            writeln!(text, "  {with:8} {what} name lot 0, {without} don't").expect("a string takes all");
+        }
         for ((service, what), count) in &self.answers {
             writeln!(text, "  {count:8} {service}: {what}").expect("a string takes all");
         }
         text
     }
+}
+
+/// Which of the two counts: the first is of those that name lot 0.
+fn without_zero(names_zero: bool) -> usize {
+    usize::from(!names_zero)
+}
+
+fn sheet_names_zero(sheet: &[u8]) -> bool {
+    let sheet = accept(sheet).expect("a sheet that was searched");
+    sheet.conditions.iter().flatten().any(|term| term.a == ZERO_LOT || term.b == ZERO_LOT)
+}
+
+fn list_names_zero(list: &[u8]) -> bool {
+    let mut splits = list.chunks(NODE_LENGTH).map(Record::from_bytes).filter(|record| record.kind == SPLIT);
+    splits.any(|split| [split.first, split.second].contains(&(ZERO_LOT as u16)))
 }

@@ -93,13 +93,15 @@ impl Tree {
     }
 }
 
+/// Any two lots, half of the time none of them lot 0.
 fn any_pair(lots: usize, random: &mut Random) -> (usize, usize) {
-    (random.range(1, lots), random.range(1, lots))
+    let lowest = random.below(2).min(lots);
+    (random.range(lowest, lots), random.range(lowest, lots))
 }
 
 /// A tree that splits on arbitrary pairs, also on pairs that are decided and on a lot twice, until a condition is false. `budget` is the most splits; a
 /// path that has none left ends in some ground, which need not be one, and now and then one ends in a ground that names a withdrawn condition. The sheet has a
-/// lot and a condition.
+/// condition.
 pub fn grow(sheet: &Sheet, decisions: &mut Vec<Decision>, budget: &mut usize, random: &mut Random) -> Tree {
     let known = Known::from(sheet.lots, decisions);
     let grounds: Vec<usize> = (1..=sheet.conditions.len()).filter(|c| known.ground_passes(&sheet.conditions[c - 1])).collect();

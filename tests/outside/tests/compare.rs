@@ -2,12 +2,13 @@
 //! number, as a failure prints them.
 use outside::classes::CLASSES;
 use outside::run::{run, run_one, say, with_stack};
-use outside::tally::Tally;
+use outside::tally::{Tally, ZeroLot};
 use std::env;
 
-/// The least number of inputs, and of answers for each check of a service.
+/// The least number of inputs, of answers for each check of a service, and of sheets and lists of each verdict, with lot 0 and without it.
 const LEAST_INPUTS: usize = 100_000;
 const LEAST_SEEN: usize = 50;
+const LEAST_WITH_ZERO: usize = 5_000;
 
 /// The checks that each service makes, and 0, no refusal: all are to be seen, so that the classes can't go stale.
 const CHECKS: [(&str, &[u32]); 5] = [
@@ -31,6 +32,12 @@ fn archive_and_second_implementation_agree() {
         }
         say(&tally.report());
         assert!(tally.inputs() >= LEAST_INPUTS);
+        let ZeroLot { met, cannot, passed } = tally.zero_lot();
+        let seen = [met, cannot, passed].concat();
+        assert!(
+            seen.iter().all(|&seen| seen >= LEAST_WITH_ZERO),
+            "sheets met, sheets that cannot be, lists: with lot 0 and without {seen:?}"
+        );
         for (service, checks) in CHECKS {
             for &check in checks {
                 let seen = tally.seen(service, check);

@@ -7,8 +7,8 @@ use outside::random::Random;
 use outside::run::{run_case, say, with_stack};
 use outside::tally::Tally;
 use second::answer::numbers;
-use second::limits::{MOST_LOTS, MOST_TERMS};
-use second::sheet::{Sign, Term};
+use second::limits::{MOST_LOTS, MOST_TERMS, ZERO_LOT};
+use second::sheet::{Lot, Sign, Term};
 use second::writer::{sheet_bytes, sheet_bytes_among, sheet_bytes_in};
 
 /// Which terms of a condition are true, in the order of its chain. A condition with no term is withdrawn.
@@ -18,7 +18,7 @@ type Truths = Vec<bool>;
 const FORTY: usize = 40;
 const MOST_FORTIES: usize = MOST_TERMS / FORTY;
 const MIDDLE: usize = MOST_FORTIES.div_ceil(2);
-/// Lots that are so many apart are together in every grouping here, and no others are.
+/// Lots that are so many apart are together in every grouping here, and no others are, but for lot 0, which is together with two of them or with none.
 const HALF: usize = MOST_LOTS / 2;
 
 /// The signs that a condition's true terms have, or its false ones.
@@ -82,22 +82,41 @@ fn met_forties() -> Vec<Truths> {
     (1..=MOST_FORTIES).map(|condition| truths(FORTY, |place| place == 7 * condition % FORTY + 1)).collect()
 }
 
-/// Lots 1 and 65 have a number that no other lot has, so have lots 2 and 66, and so on.
-fn grouping(random: &mut Random) -> Vec<u8> {
-    let mut numbers: Vec<u8> = (0..=255).collect();
+/// Lots 1 and 65 have a number that no other lot has, so have lots 2 and 66, and so on. `with_zero`, one of lots 1 to 64, and its fellow have the number 0, as
+/// lot 0 has; where it is 0 no other lot has that number.
+fn grouping(with_zero: Lot, random: &mut Random) -> Vec<u8> {
+    let mut numbers: Vec<u8> = (1..=255).collect();
     random.shuffle(&mut numbers);
+    if let Some(at) = with_zero.checked_sub(1) {
+        numbers[at] = 0;
+    }
     numbers[..HALF].repeat(2)
 }
 
-/// A term that is true, or false, in these groupings. Now and then it has a lot twice.
-fn term(sign: Sign, truth: bool, random: &mut Random) -> Term {
+/// A term that is true, or false, in these groupings. Now and then it has a lot twice, or lot 0.
+fn term(sign: Sign, truth: bool, with_zero: Lot, random: &mut Random) -> Term {
     let together = (sign == Sign::Same) == truth;
+    if random.chance(10) {
+        return term_on_zero(sign, together, with_zero, random);
+    }
     let between = match together {
         true => random.pick(&[HALF, HALF, HALF, 0]),
         false => random.range(1, HALF - 1) + random.pick(&[0, HALF]),
     };
     let a = random.range(1, MOST_LOTS);
     Term { sign, a, b: (a + between - 1) % MOST_LOTS + 1 }
+}
+
+/// A term on lot 0, in either field, and a lot that is together with it, or one that isn't.
+fn term_on_zero(sign: Sign, together: bool, with_zero: Lot, random: &mut Random) -> Term {
+    let other = match (together, with_zero) {
+        (true, ZERO_LOT) => ZERO_LOT,
+        (true, lot) => random.pick(&[ZERO_LOT, lot, lot + HALF]),
+        (false, ZERO_LOT) => random.range(1, MOST_LOTS),
+        (false, lot) => (lot + random.range(1, HALF - 1) + random.pick(&[0, HALF]) - 1) % MOST_LOTS + 1,
+    };
+    let (a, b) = random.pick(&[(ZERO_LOT, other), (other, ZERO_LOT)]);
+    Term { sign, a, b }
 }
 
 /// The conditions with their records in order, backwards, in random order, and in random order with vacant ones among them, where there is room.
@@ -148,10 +167,12 @@ impl Inputs {
     /// The conditions with true and false terms of these signs, their records in every order that `sheets` has.
     fn with_signs(&mut self, conditions: &[Truths], unmet: usize, of_true: Signs, of_false: Signs) {
         let random = &mut self.random;
-        let mut made = |&truth: &bool| term(random.pick(if truth { of_true } else { of_false }), truth, random);
+        let any = random.range(1, HALF);
+        let with_zero = random.pick(&[0, 1, HALF, any]);
+        let mut made = |&truth: &bool| term(random.pick(if truth { of_true } else { of_false }), truth, with_zero, random);
         let terms: Vec<Vec<Term>> = conditions.iter().map(|truths| truths.iter().map(&mut made).collect()).collect();
         for sheet in sheets(&terms, &mut self.random) {
-            self.evaluated(sheet, unmet);
+            self.evaluated(sheet, with_zero, unmet);
         }
         for (told, (_, is_met)) in self.told.iter_mut().zip(WRONG) {
             *told += usize::from(wrong_answer(conditions, is_met) != unmet);
@@ -159,8 +180,8 @@ impl Inputs {
     }
 
     /// Both evaluators answer as expected, and all services on the sheet agree.
-    fn evaluated(&mut self, sheet: Vec<u8>, unmet: usize) {
-        let case = Case { grouping: grouping(&mut self.random), ..Case::of(sheet, &mut self.random) };
+    fn evaluated(&mut self, sheet: Vec<u8>, with_zero: Lot, unmet: usize) {
+        let case = Case { grouping: grouping(with_zero, &mut self.random), ..Case::of(sheet, &mut self.random) };
         let expected = [0, unmet as u32, 0, 0];
         assert_eq!(plain(raw::evaluate(&case.sheet, &case.grouping)), expected, "the archive\n{case}");
         assert_eq!(numbers(&second::evaluate(&case.sheet, &case.grouping)), expected, "the second implementation\n{case}");

@@ -290,7 +290,7 @@ fn what_differs_in_anything_is_no_repeat() {
     with_stack(|| {
         let mut random = Random::new(79);
         let condition = vec![same(1, 2), apart(3, 4), same(1, 2)];
-        let others: [Vec<Term>; 10] = [
+        let others: [Vec<Term>; 15] = [
             vec![same(1, 2), same(1, 2), apart(3, 4)],
             vec![apart(3, 4), same(1, 2), same(1, 2)],
             vec![same(2, 1), apart(3, 4), same(1, 2)],
@@ -301,6 +301,11 @@ fn what_differs_in_anything_is_no_repeat() {
             vec![apart(3, 4), same(1, 2)],
             vec![same(1, 2), apart(3, 4), same(1, 2), same(1, 2)],
             vec![],
+            vec![same(0, 2), apart(3, 4), same(1, 2)],
+            vec![same(1, 0), apart(3, 4), same(1, 2)],
+            vec![same(0, 1), apart(3, 4), same(1, 2)],
+            vec![same(1, 2), apart(3, 4), same(1, 2), same(0, 0)],
+            vec![same(0, 0)],
         ];
         let all = [from_ref(&condition), others.as_slice()].concat();
         for other in &others {
@@ -362,17 +367,27 @@ fn lists<T: Clone>(values: &[T], length: usize) -> Vec<Vec<T>> {
 /// backwards.
 #[test]
 fn all_pairs_of_small_sheets() {
-    let sheets = lists(&lists(&[same(1, 2), apart(1, 2)], 2), 3);
-    let terms = |conditions: &Conditions| conditions.iter().map(Vec::len).sum::<usize>();
-    let backwards = |conditions: &Conditions| sheet_bytes_in(2, conditions, &(1..=terms(conditions)).rev().collect::<Vec<_>>());
+    all_pairs(2, &[same(1, 2), apart(1, 2)]);
+}
+
+/// As before, of 1 lot, with the terms "same 0 0", whose record has one byte that isn't zero, and "apart 0 1".
+#[test]
+fn all_pairs_of_small_sheets_with_lot_0() {
+    all_pairs(1, &[same(0, 0), apart(0, 1)]);
+}
+
+fn all_pairs(lots: usize, terms: &[Term; 2]) {
+    let sheets = lists(&lists(terms, 2), 3);
+    let count = |conditions: &Conditions| conditions.iter().map(Vec::len).sum::<usize>();
+    let backwards = |conditions: &Conditions| sheet_bytes_in(lots, conditions, &(1..=count(conditions)).rev().collect::<Vec<_>>());
     let firsts: Vec<Vec<u8>> = sheets.iter().map(backwards).collect();
-    let seconds: Vec<Vec<u8>> = sheets.iter().map(|conditions| sheet_bytes(2, conditions)).collect();
+    let seconds: Vec<Vec<u8>> = sheets.iter().map(|conditions| sheet_bytes(lots, conditions)).collect();
     for first in &firsts {
         for second in &seconds {
             let answer = compare_merge(first, second, &[0x9D; 120]).unwrap_or_else(|why| panic!("{why}\n{first:02x?}\n{second:02x?}"));
             assert_eq!(answer[0], 0);
         }
     }
-    say(&format!("{} pairs of sheets of 2 lots, all with up to three conditions of up to two terms", firsts.len() * seconds.len()));
+    say(&format!("{} pairs of sheets of {lots} lots, all with up to three conditions of up to two terms", firsts.len() * seconds.len()));
     assert_eq!(firsts.len(), 1 + 7 + 49 + 343);
 }

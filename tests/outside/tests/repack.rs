@@ -6,7 +6,7 @@ use outside::random::Random;
 use outside::run::{run_case, say, with_stack};
 use outside::sheets::{large, small, tiny, write_in_some_order};
 use outside::tally::Tally;
-use second::limits::{MOST_CONDITIONS, MOST_LOTS, MOST_TERMS};
+use second::limits::{MOST_CONDITIONS, MOST_LOTS, MOST_TERMS, ZERO_LOT};
 use second::reader::accept;
 use second::sheet::{Sign, Term};
 use second::writer::{apart, same, sheet_bytes_among, sheet_bytes_in};
@@ -67,9 +67,10 @@ fn edit_terms(condition: &mut Vec<Term>, random: &mut Random) {
     }
     let (at, other) = (random.below(condition.len()), random.below(condition.len()));
     let Term { sign, a, b } = condition[at];
-    match random.below(5) {
+    match random.below(6) {
         0 => condition[at] = Term { sign, a: b, b: a },
         1 => condition[at] = Term { sign, a: b, b },
+        5 => condition[at] = random.pick(&[Term { sign, a: ZERO_LOT, b }, Term { sign, a, b: ZERO_LOT }]),
         2 => condition[at] = Term { sign: if sign == Sign::Same { Sign::Apart } else { Sign::Same }, a, b },
         3 => condition.insert(at, condition[at]),
         _ => condition.swap(at, other),
@@ -100,8 +101,8 @@ fn longest_sheets() {
     with_stack(|| {
         let (mut random, mut tally) = (Random::new(53), Tally::default());
         let per_condition = MOST_TERMS / MOST_CONDITIONS;
-        let term =
-            |number: usize| if number.is_multiple_of(3) { same(number % MOST_LOTS + 1, 1) } else { apart(1, number % MOST_LOTS + 1) };
+        let lot = |number: usize| number % (MOST_LOTS + 1);
+        let term = |number: usize| if number.is_multiple_of(3) { same(lot(number), ZERO_LOT) } else { apart(1, lot(number)) };
         let terms: Vec<Term> = (0..MOST_TERMS).map(term).collect();
         let conditions: Conditions = terms.chunks(per_condition).map(<[Term]>::to_vec).collect();
         let in_turn: Vec<usize> = (0..MOST_TERMS).map(|term| term % per_condition * MOST_CONDITIONS + term / per_condition + 1).collect();

@@ -2,7 +2,7 @@
 //! program, and so the test.
 use lihumbay::raw;
 use outside::compare::plain;
-use outside::families::{DEEPEST, deep, joined};
+use outside::families::{DEEPEST, deep, joined, lowered};
 use outside::random::Random;
 use second::limits::{MOST_CONDITIONS, MOST_NODES, MOST_TERMS, NODE_LENGTH};
 use second::writer::{same, sheet_bytes, sheet_bytes_in};
@@ -59,6 +59,9 @@ fn deepest_searches_fit_and_so_do_the_others_on_them() {
         sheet_bytes(46, &deep(46, DEEPEST, &mut random)),
         sheet_bytes_in(128, &deep(128, DEEPEST, &mut random), &backwards),
         sheet_bytes(128, &joined(128)),
+        // With lot 0 among them it is one lot more.
+        sheet_bytes_in(128, &lowered(&deep(129, DEEPEST, &mut random)), &backwards),
+        sheet_bytes(128, &lowered(&joined(129))),
     ] {
         let (answer, list) = searched(sheet.clone());
         assert_eq!(answer[..2], [0, 2]);

@@ -1,4 +1,5 @@
-//! Very small universes, whole: all sheets with few lots, conditions and records whose fields lie in a small range, and all short lists.
+//! Very small universes, whole: all sheets with few lots, conditions and records whose fields lie in a small range, and all short lists. Lot 0 is among the
+//! lots.
 use outside::canonical::canonical;
 use outside::case::{Case, canonical_length, probe};
 use outside::merged::{compare_merge, merged_length};
@@ -41,10 +42,15 @@ fn records(signs: (u8, u8), most_spare: u8, a: (u8, u8), b: (u8, u8), most_next:
     all
 }
 
-/// The vacant record, and those that have one byte other than zero.
+/// The vacant record, and those that have one byte other than zero: of these, the one with a sign is the term "same 0 0".
 fn nearly_vacant() -> Vec<Vec<u8>> {
     let one_byte = |at: usize| (0..8).map(|byte| u8::from(byte == at)).collect();
     [vec![vec![0; 8]], (0..8).map(one_byte).collect()].concat()
+}
+
+/// Records that have one field out of range: the sign, or a lot.
+fn out_of_range(lots: u8) -> Vec<Vec<u8>> {
+    vec![vec![3, 0, 0, 0, 0, 0, 0, 0], vec![1, 0, lots + 1, 0, 0, 0, 0, 0], vec![1, 0, 0, 0, lots + 1, 0, 0, 0]]
 }
 
 /// The search's own list, exactly its room and that of the canonical bytes. The store is a byte shorter where the count is even, so that 9 is seen too, and the
@@ -76,18 +82,20 @@ fn all_sheets(lots: u8, conditions: u8, terms: usize, records: &[Vec<u8>], visit
     });
 }
 
-/// All sheets of up to 2 lots, conditions and records, their fields in and around what is accepted; and all of 1 lot and 3 records that are vacant or a term,
-/// so that chains come to vacant records and back to their own in every order.
+/// All sheets of up to 2 lots, conditions and records, their fields in and around what is accepted; and all of 3 records that are vacant or one term, "same 1
+/// 1" or "same 0 0", so that chains come to vacant records and back to their own in every order.
 fn all_small_sheets(visit: &mut impl FnMut(Vec<u8>)) {
     for conditions in 0..=2 {
         for lots in 0..=2 {
             all_sheets(lots, conditions, 0, &[], visit);
             all_sheets(lots, conditions, 1, &records((0, 3), 1, (0, lots + 1), (0, lots + 1), 2), visit);
-            let two = [records((1, 3), 0, (0, lots), (1, lots.max(1)), 3), nearly_vacant()].concat();
+            let two = [records((1, 2), 0, (0, lots), (0, lots), 3), nearly_vacant(), out_of_range(lots)].concat();
             all_sheets(lots, conditions, 2, &two, visit);
         }
-        let three = [records((1, 1), 0, (1, 1), (1, 1), 3), vec![vec![0; 8]]].concat();
-        all_sheets(1, conditions, 3, &three, visit);
+        for lot in 0..=1 {
+            let three = [records((1, 1), 0, (lot, lot), (lot, lot), 3), vec![vec![0; 8]]].concat();
+            all_sheets(lot, conditions, 3, &three, visit);
+        }
     }
 }
 
@@ -110,7 +118,8 @@ fn all_small_sheets_byte_by_byte() {
 /// sheet's bytes have an odd sum.
 #[test]
 fn all_small_sheets_merged() {
-    let accepted = sheet_bytes_in(3, &[vec![same(1, 1)], vec![], vec![same(1, 1), same(1, 1)], vec![same(3, 2)]], &[3, 1, 4, 2]);
+    let conditions = [vec![same(1, 1)], vec![], vec![same(1, 1), same(0, 0)], vec![same(3, 2)], vec![same(0, 0)]];
+    let accepted = sheet_bytes_in(3, &conditions, &[3, 1, 5, 4, 2]);
     let refused = [&accepted[..6], &[9], &accepted[7..]].concat();
     let mut checks: HashMap<[u32; 2], usize> = HashMap::new();
     all_small_sheets(&mut |sheet| {
@@ -137,53 +146,87 @@ fn conditions_of(terms: &[Term]) -> Vec<Vec<Term>> {
     all
 }
 
-#[test]
-fn all_small_conditions() {
+/// Three conditions over three pairs of lots, and two over these and three pairs more.
+fn small_conditions(lots: usize, pairs: [(usize, usize); 3], more: [(usize, usize); 3]) {
     with_stack(|| {
         let mut tally = Tally::default();
         let mut count = 0;
         let mut run = |conditions: &[Vec<Term>]| {
-            run_case(&case(sheet_bytes(3, conditions)), &mut tally);
+            run_case(&case(sheet_bytes(lots, conditions)), &mut tally);
             count += 1;
         };
-        let pairs = [(1, 2), (1, 3), (2, 3)];
         let three: Vec<Term> = pairs.iter().flat_map(|&(a, b)| [same(a, b), apart(a, b)]).collect();
         each(&conditions_of(&three), 3, &mut run);
-        let more = pairs.iter().chain(&[(1, 1), (3, 3), (3, 2)]);
-        let twelve: Vec<Term> = more.flat_map(|&(a, b)| [same(a, b), apart(a, b)]).collect();
+        let all = pairs.iter().chain(&more);
+        let twelve: Vec<Term> = all.flat_map(|&(a, b)| [same(a, b), apart(a, b)]).collect();
         each(&conditions_of(&twelve), 2, &mut run);
-        say(&format!("{count} sheets of 3 lots, all conditions of up to two terms"));
+        say(&format!("{count} sheets of {lots} lots, all conditions of up to two terms"));
         assert!(tally.seen("search", 0) > 1000 && tally.seen("search", 9) > 1000);
     });
 }
 
 #[test]
-fn all_short_lists() {
+fn all_small_conditions() {
+    small_conditions(3, [(1, 2), (1, 3), (2, 3)], [(1, 1), (3, 3), (3, 2)]);
+}
+
+#[test]
+fn all_small_conditions_with_lot_0() {
+    small_conditions(2, [(0, 1), (0, 2), (1, 2)], [(0, 0), (2, 2), (2, 0)]);
+}
+
+/// All terms over lots 0 to 2 at once: lists of two conditions of up to two of them.
+#[test]
+fn all_terms_over_three_lots() {
+    with_stack(|| {
+        let mut tally = Tally::default();
+        let lots = || 0..=2usize;
+        let pairs = lots().flat_map(|a| lots().map(move |b| (a, b)));
+        let terms: Vec<Term> = pairs.flat_map(|(a, b)| [same(a, b), apart(a, b)]).collect();
+        each(&conditions_of(&terms), 2, &mut |conditions| run_case(&case(sheet_bytes(2, conditions)), &mut tally));
+        say(&format!("{} sheets of 2 lots, two conditions of up to two terms of all kinds", tally.seen("reader", 0)));
+        assert_eq!(tally.seen("reader", 0), 343 * 343);
+    });
+}
+
+/// Lists whose splits are on these two lots, one of which is the sheet's last.
+fn short_lists(one: usize, last: usize) {
     with_stack(|| {
         let mut tally = Tally::default();
         let mut count = 0;
         // Condition 3 is withdrawn, and there is no condition 4.
-        let sheet = sheet_bytes(2, &[vec![same(1, 2)], vec![apart(1, 2)], vec![]]);
+        let sheet = sheet_bytes(last, &[vec![same(one, last)], vec![apart(one, last)], vec![]]);
         let mut run = |records: &[Record]| {
             let list = list_bytes(records);
             let case = Case { sheet: sheet.clone(), grouping: vec![1, 1], store_length: 24, list, out_length: sheet.len(), fill: 1 };
             run_case(&case, &mut tally);
             count += 1;
         };
-        let odd = [Record { kind: 3, ..ground(0) }, Record { spare: 1, ..ground(1) }, ground(3), ground(4), split(1, 3, 3)];
+        let odd = [Record { kind: 3, ..ground(0) }, Record { spare: 1, ..ground(1) }, ground(0), ground(3), ground(4)];
+        let beside = [split(one, last + 1, 3), split(last + 1, one, 3), split(0, one, 3)];
         let mut values: Vec<Record> = vec![ground(1), ground(2)];
         for next in [0, 2, 3, 4] {
-            values.extend([split(1, 2, next), split(2, 1, next), split(1, 1, next)]);
+            values.extend([split(one, last, next), split(last, one, next), split(one, one, next)]);
         }
-        let with_odd = [values.as_slice(), &odd].concat();
+        let with_odd = [values.as_slice(), &odd, &beside].concat();
         (0..=3).for_each(|length| each(&with_odd, length, &mut run));
         each(&values, 4, &mut run);
         let few: Vec<Record> =
-            [3, 4, 5].iter().flat_map(|&next| [split(1, 2, next), split(2, 2, next)]).chain([ground(1), ground(2)]).collect();
+            [3, 4, 5].iter().flat_map(|&next| [split(one, last, next), split(last, last, next)]).chain([ground(1), ground(2)]).collect();
         each(&few, 5, &mut run);
-        say(&format!("{count} lists of up to 5 records"));
+        say(&format!("{count} lists of up to 5 records, on lots {one} and {last}"));
         [0, 10, 11, 12, 13, 14].iter().for_each(|&check| assert!(tally.seen("checker", check) > 0, "check {check}"));
     });
+}
+
+#[test]
+fn all_short_lists() {
+    short_lists(1, 2);
+}
+
+#[test]
+fn all_short_lists_with_lot_0() {
+    short_lists(0, 1);
 }
 
 type LotsAndConditions = (usize, Vec<Vec<Term>>);
@@ -231,7 +274,8 @@ fn orders(count: usize) -> Vec<Vec<usize>> {
 fn canonical_bytes_in_all_orders_of_the_records() {
     let mut forms = Forms::default();
     let orders: Vec<Vec<Vec<usize>>> = (0..=6).map(orders).collect();
-    let conditions = conditions_of(&[same(1, 2), apart(1, 2)]);
+    // The record of "same 0 0" is the one that is nearest to a vacant one.
+    let conditions = conditions_of(&[same(0, 0), apart(1, 2)]);
     for length in 0..=3 {
         each(&conditions, length, &mut |conditions| {
             let terms = conditions.iter().map(Vec::len).sum::<usize>();

@@ -1,12 +1,13 @@
-//! Verdicts on larger sheets beside z3's, where the command is on the path: lots are integers, a condition is a disjunction.
+//! Verdicts on larger sheets beside z3's, where the command is on the path: lots are integers, lot 0 is the number 0, a condition is a disjunction.
 use lihumbay::raw;
 use outside::compare::plain;
 use outside::random::Random;
 use outside::run::{say, with_stack};
 use outside::sheets::{Shape, write};
-use second::limits::MOST_NODES;
+use second::limits::{MOST_NODES, ZERO_LOT};
 use second::reader::accept;
-use second::sheet::{Sheet, Sign, Term, is_withdrawn};
+use second::sheet::{Lot, Sheet, Sign, Term, is_withdrawn};
+use second::writer::{apart, same, sheet_bytes};
 use std::fmt::Write as _;
 use std::io::Write as _;
 use std::process::{Command, Stdio};
@@ -23,6 +24,7 @@ fn sheet(random: &mut Random) -> Vec<u8> {
         terms: 1024,
         longest: random.range(2, 4),
         same: random.range(30, 80),
+        zero: random.pick(&[0, 2, 10]),
         twice: random.below(3),
         repeated: 3,
         withdrawn: random.pick(&[0, 5]),
@@ -40,8 +42,16 @@ fn verdict(bytes: &[u8]) -> Option<u32> {
     }
 }
 
+/// Lot 0 has the number 0 in every assignment; each other lot is a constant of its own.
+fn lot(lot: Lot) -> String {
+    match lot {
+        ZERO_LOT => "0".into(),
+        _ => format!("x{lot}"),
+    }
+}
+
 fn term(term: &Term) -> String {
-    let equal = format!("(= x{} x{})", term.a, term.b);
+    let equal = format!("(= {} {})", lot(term.a), lot(term.b));
     match term.sign {
         Sign::Same => equal,
         Sign::Apart => format!("(not {equal})"),
@@ -51,7 +61,7 @@ fn term(term: &Term) -> String {
 fn script(sheet: &Sheet) -> String {
     let mut text = String::from("(reset)\n(set-logic QF_LIA)\n");
     for lot in 1..=sheet.lots {
-        writeln!(text, "(declare-const x{lot} Int)").expect("a string takes all");
+        writeln!(text, "(declare-const {} Int)", self::lot(lot)).expect("a string takes all");
     }
     // A withdrawn condition is true, and asserts nothing.
     for condition in sheet.conditions.iter().filter(|condition| !is_withdrawn(condition)) {
@@ -70,6 +80,22 @@ fn answers(scripts: &str) -> Vec<String> {
         z3.wait_with_output().expect("z3 ends")
     });
     String::from_utf8(output.stdout).expect("z3 prints text").lines().map(String::from).collect()
+}
+
+/// What z3 is asked is looked at also where it is not there.
+#[test]
+fn a_sheet_s_script() {
+    let sheet = sheet_bytes(2, &[vec![same(0, 2), apart(1, 0)], vec![], vec![apart(0, 0)]]);
+    let lines = [
+        "(reset)",
+        "(set-logic QF_LIA)",
+        "(declare-const x1 Int)",
+        "(declare-const x2 Int)",
+        "(assert (or false (= 0 x2) (not (= x1 0))))",
+        "(assert (or false (not (= 0 0))))",
+        "(check-sat)",
+    ];
+    assert_eq!(script(&accept(&sheet).expect("a valid sheet")).lines().collect::<Vec<_>>(), lines);
 }
 
 #[test]
