@@ -1,5 +1,5 @@
-/* Calls each exported function on the sheets A and C of document 01, and on calls that are refused, and compares answers and buffers. Its exit status is 0
-   where all agree. */
+/* Calls each exported function on the sheets A and C of document 01, on their like with lot 0, and on calls that are refused, and compares answers and
+   buffers. Its exit status is 0 where all agree. */
 #include <stdio.h>
 #include <string.h>
 
@@ -221,6 +221,52 @@ static void merge_limits(void) {
     expect("its sheet", memcmp(out, terms, sizeof terms) == 0);
 }
 
+/* Sheet C with each lot one lower: same 0 1 or same 0 2; apart 0 1. Lot 0 has the number 0 and no byte of the grouping. */
+static const uint8_t lower_c[] = {
+    2, 0, 2, 0, 3, 0,       1, 0, 3, 0,             1, 0, 0, 0, 1, 0, 2, 0,
+    1, 0, 0, 0, 2, 0, 0, 0, 2, 0, 0, 0, 1, 0, 0, 0,
+};
+
+/* split 0 1 3; ground 2; split 0 2 0; met */
+static const uint8_t lower_nodes_c[] = {
+    1, 0, 0, 0, 1, 0, 3, 0, 2, 0, 2, 0, 0, 0, 0, 0,
+    1, 0, 0, 0, 2, 0, 0, 0, 3, 0, 0, 0, 0, 0, 0, 0,
+};
+
+static void zero_lot(void) {
+    uint8_t grouping[4], store[40], out[34];
+    memset(grouping, 170, sizeof grouping);
+    memset(store, 170, sizeof store);
+    expect("read, lot 0", is(lihumbay_read(lower_c, sizeof lower_c), 0, 2, 2, 3));
+    expect("search, lot 0", is(lihumbay_search(lower_c, sizeof lower_c, grouping, 4, store, sizeof store), 0, 1, 4, 0));
+    expect("its grouping", memcmp(grouping, "\1\0", 2) == 0 && all(grouping, 2, 4, 170));
+    expect("its nodes", memcmp(store, lower_nodes_c, sizeof lower_nodes_c) == 0 && all(store, 32, 40, 170));
+    expect("evaluate 1 0", is(lihumbay_evaluate(lower_c, sizeof lower_c, grouping, 2), 0, 0, 0, 0));
+    expect("evaluate 7 7", is(lihumbay_evaluate(lower_c, sizeof lower_c, (const uint8_t *)"\7\7", 2), 0, 1, 0, 0));
+    expect("evaluate 0 7", is(lihumbay_evaluate(lower_c, sizeof lower_c, (const uint8_t *)"\0\7", 2), 0, 2, 0, 0));
+    expect("repack, lot 0", is(lihumbay_repack(lower_c, sizeof lower_c, out, sizeof out), 0, 34, 0, 0));
+    expect("no byte changed", memcmp(out, lower_c, sizeof lower_c) == 0);
+    expect("merge, lot 0", is(lihumbay_merge(lower_c, sizeof lower_c, lower_c, sizeof lower_c, out, sizeof out), 0, 34, 0, 0));
+    expect("no byte changed", memcmp(out, lower_c, sizeof lower_c) == 0);
+}
+
+/* No lots: lot 0 is there. The record of the term same 0 0 has one byte that isn't zero, and the one of apart 0 0. */
+static void zero_lot_alone(void) {
+    uint8_t sheet[] = {0, 0, 1, 0, 1, 0, 1, 0, 1, 0, 0, 0, 0, 0, 0, 0}, grouping[1], store[8];
+    static const uint8_t list[] = {1, 0, 0, 0, 0, 0, 3, 0, 2, 0, 1, 0, 0, 0, 0, 0, 2, 0, 1, 0, 0, 0, 0, 0};
+    static const uint8_t ground_0[] = {2, 0, 0, 0, 0, 0, 0, 0};
+    expect("read same 0 0", is(lihumbay_read(sheet, sizeof sheet), 0, 0, 1, 1));
+    expect("search same 0 0", is(lihumbay_search(sheet, sizeof sheet, grouping, 0, store, sizeof store), 0, 1, 1, 0));
+    expect("check, same 0 0 is true", is(lihumbay_check(sheet, sizeof sheet, list, sizeof list), 12, 2, 0, 0));
+    sheet[8] = 2;
+    expect("search apart 0 0", is(lihumbay_search(sheet, sizeof sheet, grouping, 0, store, sizeof store), 0, 2, 1, 0));
+    expect("evaluate apart 0 0", is(lihumbay_evaluate(sheet, sizeof sheet, grouping, 0), 0, 1, 0, 0));
+    expect("check, a split on 0 0", is(lihumbay_check(sheet, sizeof sheet, list, sizeof list), 0, 0, 0, 0));
+    expect("check, a ground's condition 0", is(lihumbay_check(sheet, sizeof sheet, ground_0, sizeof ground_0), 11, 1, 0, 0));
+    sheet[8] = 0;
+    expect("read, a chain into a vacant record", is(lihumbay_read(sheet, sizeof sheet), 17, 1, 0, 0));
+}
+
 int main(void) {
     reader();
     search_met();
@@ -232,6 +278,8 @@ int main(void) {
     withdrawn();
     merge();
     merge_limits();
+    zero_lot();
+    zero_lot_alone();
     puts(failed ? "calls from C: FAILED" : "calls from C: ok");
     return failed;
 }

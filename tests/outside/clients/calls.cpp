@@ -1,4 +1,4 @@
-// The header from C++: its functions have C linkage, and document 01's sheet C is answered as the papers say.
+// The header from C++: its functions have C linkage, and document 01's sheet C, also with each lot one lower, is answered as the papers say.
 #include <algorithm>
 #include <array>
 #include <iostream>
@@ -17,6 +17,10 @@ int main() {
     std::vector<std::uint8_t> both(35, 170);
     const lihumbay_numbers merged = lihumbay_merge(sheet.data(), sheet.size(), sheet.data(), sheet.size(), both.data(), both.size());
     const lihumbay_numbers cut = lihumbay_merge(sheet.data(), sheet.size(), sheet.data(), 33, both.data(), both.size());
+    const std::array<std::uint8_t, 34> lower = {2, 0, 2, 0, 3, 0, 1, 0, 3, 0, 1, 0, 0, 0, 1, 0, 2, 0, 1, 0, 0, 0, 2, 0, 0, 0, 2, 0, 0, 0, 1, 0, 0, 0};
+    std::vector<std::uint8_t> lower_grouping(3, 170);
+    const lihumbay_numbers zero = lihumbay_search(lower.data(), lower.size(), lower_grouping.data(), lower_grouping.size(), store.data(), 32);
+    const bool zero_lot = zero.check == 0 && zero.first == 1 && zero.second == 4 && lower_grouping == std::vector<std::uint8_t>{1, 0, 170};
     const bool accepted = read.check == 0 && read.first == 3 && read.second == 2 && read.third == 3;
     const bool met = found.check == 0 && found.first == 1 && found.second == 4 && found.third == 0;
     const bool written = grouping == std::vector<std::uint8_t>{1, 2, 1, 170} && std::count(store.begin() + 32, store.end(), 170) == 8;
@@ -24,7 +28,8 @@ int main() {
     const bool canonical = repacked.check == 0 && repacked.first == 34 && std::equal(sheet.begin(), sheet.end(), out.begin()) && out.back() == 170;
     const bool one_sheet = merged.check == 0 && merged.first == 34 && merged.second == 0 && both == out;
     const bool second_named = cut.check == 3 && cut.first == 0 && cut.second == 2 && cut.third == 0;
-    const bool ok = accepted && met && written && no_refutation && canonical && one_sheet && second_named && evaluated.check == 0 && evaluated.first == 0;
+    const bool all_met = evaluated.check == 0 && evaluated.first == 0;
+    const bool ok = accepted && met && written && no_refutation && canonical && one_sheet && second_named && zero_lot && all_met;
     std::cout << (ok ? "calls from C++: ok\n" : "calls from C++: FAILED\n");
     return ok ? 0 : 1;
 }

@@ -1,4 +1,4 @@
-"""Calls the services from Python, on document 01's sheets A and C. Its argument is a shared library made from the archive."""
+"""Calls the services from Python, on document 01's sheets A and C, and on C with each lot one lower. Its argument is a shared library made from the archive."""
 import ctypes
 import sys
 
@@ -94,6 +94,23 @@ def merged(merge):
     assert short == C + b"\xaa" * 27
 
 
+def zero_lot(read, search, evaluate, check):
+    lower = bytes.fromhex("020002000300 01000300 0100000001000200 0100000002000000 0200000001000000")
+    grouping, store = bytearray(b"\xaa" * 3), bytearray(b"\xaa" * 33)
+    assert read(lower) == (0, 2, 2, 3)
+    assert search(lower, grouping, store) == (0, 1, 4, 0)
+    assert grouping == bytes([1, 0, 0xAA])
+    assert store == bytes.fromhex("0100000001000300 0200020000000000 0100000002000000 0300000000000000") + b"\xaa"
+    assert evaluate(lower, bytes([1, 0])) == (0, 0, 0, 0)
+    assert evaluate(lower, bytes([7, 7])) == (0, 1, 0, 0)
+    assert evaluate(lower, bytes([0, 7])) == (0, 2, 0, 0)
+    assert check(lower, bytes.fromhex("0100000001000300 0200020000000000 0200010000000000")) == (12, 3, 0, 0)
+    assert check(lower, bytes.fromhex("0100010000000300 0200000000000000 0200010000000000")) == (11, 2, 0, 0)
+    apart_0_0 = bytes.fromhex("000001000100 0100 0200000000000000")
+    assert read(apart_0_0) == (0, 0, 1, 1)
+    assert check(apart_0_0, bytes.fromhex("0100000000000300 0200010000000000 0200010000000000")) == (0, 0, 0, 0)
+
+
 def main():
     library = ctypes.CDLL(sys.argv[1])
     read, evaluate = service(library, "lihumbay_read", 1), service(library, "lihumbay_evaluate", 2)
@@ -105,6 +122,7 @@ def main():
     reordered(repack)
     withdrawn(read, search, evaluate, check, repack)
     merged(service(library, "lihumbay_merge", 3))
+    zero_lot(read, search, evaluate, check)
     print("calls from Python: ok")
 
 
