@@ -135,6 +135,15 @@ mod tests {
         assert_eq!(sheet.to_bytes(), [1, 0, 2, 0, 1, 0, 0, 0, 1, 0, 2, 0, 1, 0, 1, 0, 0, 0]);
     }
 
+    /// Sign 1 and zeros are the term "same 0 0"; a record is vacant where the sign is zero too.
+    #[test]
+    fn a_term_over_lot_0_alone_is_not_vacant() {
+        let bytes = [0, 0, 1, 0, 2, 0, 1, 0, 1, 0, 0, 0, 0, 0, 0, 0, 0, 0, 0, 0, 0, 0, 0, 0];
+        let sheet = Sheet::from_bytes(&bytes).unwrap();
+        assert_eq!((sheet.lots(), sheet.conditions()[0].terms()), (0, [Term::Same(0, 0)].as_slice()));
+        assert_eq!(sheet.to_bytes(), [0, 0, 1, 0, 1, 0, 1, 0, 1, 0, 0, 0, 0, 0, 0, 0]);
+    }
+
     #[test]
     fn a_withdrawn_condition_has_head_zero() {
         let mut builder = SheetBuilder::new(1).unwrap();

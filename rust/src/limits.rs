@@ -1,9 +1,11 @@
-//! The limits and lengths of document 01, each in one place.
+//! The limits and lengths of documents 01 and 02, each in one place.
 
-/// The most lots of a sheet.
+/// The most lots of a sheet, [`ZERO_LOT`] not counted.
 pub const MOST_LOTS: usize = 128;
-/// The lowest number that a lot has.
-pub const LOWEST_LOT: u16 = 1;
+/// Lot 0, which every sheet has beside those that it counts. Its number is 0 in every assignment, and a grouping has no byte for it.
+pub const ZERO_LOT: u16 = 0;
+/// The lowest lot that a term or a split may name.
+pub const LOWEST_LOT: u16 = ZERO_LOT;
 /// The most conditions of a sheet.
 pub const MOST_CONDITIONS: usize = 256;
 /// The most terms of a sheet, over all conditions, and the most term records, vacant ones included.

@@ -17,9 +17,10 @@ pub enum MergeRefusal {
 }
 
 /// Merges two sheets into one, which is met exactly by what meets both. It has the larger number of lots, and the conditions of the first sheet in their
-/// order, then those of the second in theirs. A condition is left out where it repeats an earlier one, of either sheet: the same terms in the same order, each
-/// with the same sign and the same lots in the same order. Withdrawn conditions, which have no term, repeat each other too. The bytes are packed, as
-/// [`repack`](crate::repack) has them. Check 18 refuses what has more conditions or terms than a sheet can have once repeats are left out.
+/// order, then those of the second in theirs. Lot 0, which no sheet counts, is one lot for both. A condition is left out where it repeats an earlier one, of
+/// either sheet: the same terms in the same order, each with the same sign and the same lots in the same order. Withdrawn conditions, which have no term,
+/// repeat each other too. The bytes are packed, as [`repack`](crate::repack) has them. Check 18 refuses what has more conditions or terms than a sheet can have
+/// once repeats are left out.
 ///
 /// ```
 /// use lihumbay::{MergeRefusal, Sheet};

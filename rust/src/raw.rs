@@ -39,7 +39,7 @@ unsafe extern "C" {
     ) -> Numbers;
 }
 
-/// The reader: lots, conditions, term records.
+/// The reader: lots, lot 0 not counted, conditions, term records.
 pub fn read(sheet: &[u8]) -> Numbers {
     // SAFETY: a slice's pointer isn't null and has the slice's length.
     unsafe { lihumbay_read(sheet.as_ptr(), sheet.len()) }
@@ -51,7 +51,7 @@ pub fn search(sheet: &[u8], grouping: &mut [u8], store: &mut [u8]) -> Numbers {
     unsafe { lihumbay_search(sheet.as_ptr(), sheet.len(), grouping.as_mut_ptr(), grouping.len(), store.as_mut_ptr(), store.len()) }
 }
 
-/// The evaluator: 0 where the grouping meets every condition, else the lowest that it doesn't.
+/// The evaluator: 0 where the grouping meets every condition, else the lowest that it doesn't. Lot 0 has no byte in a grouping; its number is 0.
 pub fn evaluate(sheet: &[u8], grouping: &[u8]) -> Numbers {
     // SAFETY: as in `read`.
     unsafe { lihumbay_evaluate(sheet.as_ptr(), sheet.len(), grouping.as_ptr(), grouping.len()) }

@@ -6,7 +6,7 @@ use std::fmt;
 #[derive(Clone, Copy, Debug, PartialEq, Eq, Hash)]
 #[non_exhaustive]
 pub enum Record {
-    /// Two lots are tried the same, in the records that follow, and then apart.
+    /// Two lots are tried the same, in the records that follow, and then apart. Either may be lot 0.
     Split {
         /// The first lot.
         a: u16,
@@ -70,7 +70,8 @@ mod tests {
 
     #[test]
     fn bytes_and_records_are_one_to_one() {
-        let records = [Record::Split { a: 1, b: 300, next: 65_535 }, Record::Ground { condition: 256 }, Record::Met];
+        let splits = [(1, 300, 65_535), (0, 3, 2), (3, 0, 2), (0, 0, 0)].map(|(a, b, next)| Record::Split { a, b, next });
+        let records = splits.into_iter().chain([Record::Ground { condition: 256 }, Record::Met]);
         for record in records {
             assert_eq!(record.to_bytes().and_then(Record::from_bytes), Some(record));
         }

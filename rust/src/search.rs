@@ -17,7 +17,8 @@ const CANNOT: u32 = 2;
 pub enum Verdict<'a> {
     /// Every condition can be met.
     Met {
-        /// A byte for each lot, and with it every condition is met.
+        /// A byte for each lot from lot 1 on, and with it every condition is met. It is the smallest lot that the lot is together with, so 0 exactly where
+        /// that is lot 0.
         grouping: Grouping<'a>,
         /// The nodes visited, the last one met.
         records: RecordList<'a>,

@@ -5,7 +5,7 @@ use crate::refusal::Refusal;
 /// What the reader answers of an accepted sheet.
 #[derive(Clone, Copy, Debug, PartialEq, Eq, Hash)]
 pub struct Reading {
-    /// The number of lots.
+    /// The number of lots, from lot 1 on: lot 0 isn't counted.
     pub lots: u32,
     /// The number of conditions.
     pub conditions: u32,
@@ -34,14 +34,17 @@ pub fn read(sheet: &[u8]) -> Result<Reading, Refusal> {
     Ok(Reading { lots: numbers.first, conditions: numbers.second, records: numbers.third })
 }
 
-/// Evaluates a grouping: lot i has byte i − 1 as its number. A withdrawn condition is met by every grouping. A grouping longer than the number of lots may have
-/// anything in the rest.
+/// Evaluates a grouping: lot i has byte i − 1 as its number, and lot 0, which has no byte, the number 0. A withdrawn condition is met by every grouping. A
+/// grouping longer than the number of lots may have anything in the rest.
 ///
 /// ```
 /// use lihumbay::{Evaluation, Sheet};
 /// let sheet = "same 1 2\napart 1 3".parse::<Sheet>()?.to_bytes();
 /// assert_eq!(lihumbay::evaluate(&sheet, &[7, 7, 4])?, Evaluation::AllMet);
 /// assert_eq!(lihumbay::evaluate(&sheet, &[7, 7, 7])?, Evaluation::Unmet(2));
+/// let sheet = "same 0 1\napart 0 2".parse::<Sheet>()?.to_bytes();
+/// assert_eq!(lihumbay::evaluate(&sheet, &[0, 4])?, Evaluation::AllMet);
+/// assert_eq!(lihumbay::evaluate(&sheet, &[7, 4])?, Evaluation::Unmet(1));
 /// # Ok::<(), Box<dyn std::error::Error>>(())
 /// ```
 pub fn evaluate(sheet: &[u8], grouping: &[u8]) -> Result<Evaluation, Refusal> {
@@ -52,7 +55,7 @@ pub fn evaluate(sheet: &[u8], grouping: &[u8]) -> Result<Evaluation, Refusal> {
     })
 }
 
-/// Checks a list of records from any hand. Where it passes, no assignment of numbers to lots meets the sheet.
+/// Checks a list of records from any hand. Where it passes, no assignment of numbers to lots meets the sheet, whichever number lot 0 has.
 ///
 /// ```
 /// use lihumbay::{Sheet, Verdict};

@@ -4,8 +4,8 @@ use crate::term::{Condition, Term};
 use std::error::Error;
 use std::fmt;
 
-/// A sheet: the number of lots, and the conditions, numbered from 1, withdrawn ones included. It is within the limits, so that it has bytes which the reader
-/// accepts.
+/// A sheet: the number of lots, lot 0 not counted, and the conditions, numbered from 1, withdrawn ones included. It is within the limits, so that it has bytes
+/// which the reader accepts.
 ///
 /// [`to_bytes`](Sheet::to_bytes) and [`from_bytes`](Sheet::from_bytes) go to the bytes and back, [`Display`](fmt::Display) and
 /// [`FromStr`](std::str::FromStr) to text and back.
@@ -21,7 +21,7 @@ impl Sheet {
         Sheet { lots, conditions }
     }
 
-    /// The number of lots.
+    /// The number of lots, from lot 1 on: lot 0 isn't counted.
     pub fn lots(&self) -> u16 {
         self.lots
     }
@@ -35,6 +35,17 @@ impl Sheet {
     pub fn condition(&self, number: impl Into<u32>) -> Option<&Condition> {
         let index = number.into().checked_sub(1)?;
         self.conditions.get(index as usize)
+    }
+
+    /// Whether a term names this lot.
+    ///
+    /// ```
+    /// let sheet: lihumbay::Sheet = "lots 3\nsame 0 1 | apart 1 2".parse()?;
+    /// assert!(sheet.names_lot(lihumbay::ZERO_LOT) && sheet.names_lot(2) && !sheet.names_lot(3));
+    /// # Ok::<(), lihumbay::TextError>(())
+    /// ```
+    pub fn names_lot(&self, lot: u16) -> bool {
+        self.conditions.iter().flat_map(|condition| condition.terms()).any(|term| term.lots().contains(&lot))
     }
 
     /// The number of terms over all conditions. Bytes that the sheet came from may have more records: the vacant ones.
@@ -86,13 +97,13 @@ pub enum LimitError {
         term: usize,
         /// The lot that it names.
         lot: u16,
-        /// The lots that the sheet has.
+        /// The lots that the sheet has, beside lot 0.
         lots: u16,
     },
 }
 
 impl SheetBuilder {
-    /// A sheet with lots 1 to `lots`, and no condition yet.
+    /// A sheet with lots 1 to `lots`, and lot 0, which is always there; no condition yet.
     pub fn new(lots: u16) -> Result<Self, LimitError> {
         if usize::from(lots) > MOST_LOTS {
             return Err(LimitError::Lots { lots });
@@ -182,8 +193,23 @@ mod tests {
         let mut builder = SheetBuilder::new(2).unwrap();
         let refused = builder.condition([Term::Same(1, 2), Term::Apart(3, 1)]).err();
         assert_eq!(refused, Some(LimitError::Lot { condition: 1, term: 2, lot: 3, lots: 2 }));
-        assert!(builder.condition([Term::Same(0, 1)]).is_err());
         assert!(builder.condition(std::iter::repeat(Term::Same(1, 1))).is_err());
         assert_eq!(builder.finish().conditions(), []);
+    }
+
+    #[test]
+    fn lot_0_is_in_every_sheet_and_is_not_counted() {
+        let mut builder = SheetBuilder::new(0).unwrap();
+        assert!(builder.condition([Term::Same(0, 0), Term::Apart(0, 0)]).is_ok());
+        let refused = builder.condition([Term::Same(0, 1)]).err();
+        assert_eq!(refused, Some(LimitError::Lot { condition: 2, term: 1, lot: 1, lots: 0 }));
+        assert_eq!(refused.unwrap().to_string(), "condition 2, term 1: lot 1 is out of range: lots count from 0 to 0");
+        let reading = crate::read(&builder.finish().to_bytes()).unwrap();
+        assert_eq!((reading.lots, reading.conditions, reading.records), (0, 1, 2));
+
+        let mut builder = SheetBuilder::new(128).unwrap();
+        assert!(builder.condition([Term::Same(0, 128), Term::Apart(128, 0)]).is_ok());
+        assert!(builder.condition([Term::Apart(0, 129)]).is_err());
+        assert!(crate::read(&builder.finish().to_bytes()).is_ok());
     }
 }

@@ -1,7 +1,7 @@
 //! Terms, and conditions as lists of them.
 use std::fmt;
 
-/// A term over two lots, which may be one lot twice.
+/// A term over two lots, which may be one lot twice. Either may be lot 0, whose number is 0.
 #[derive(Clone, Copy, Debug, PartialEq, Eq, Hash)]
 pub enum Term {
     /// True when the two lots have the same number.

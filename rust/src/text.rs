@@ -18,12 +18,14 @@ impl fmt::Display for Sheet {
 }
 
 /// Reads the text form: one condition a line, its terms parted by `|`; a condition with no term, which everything meets, is the line `withdrawn`. The line
-/// `lots N` may stand before the conditions; without it the highest lot named is the last. `#` begins a comment, and empty lines are passed over.
+/// `lots N` may stand before the conditions; without it the highest lot named is the last. Lot 0 is named as any other lot, and N doesn't count it. `#` begins
+/// a comment, and empty lines are passed over.
 ///
 /// ```
 /// let text = "lots 3\nsame 1 2 | apart 2 3\nwithdrawn\n";
 /// let sheet: lihumbay::Sheet = text.parse()?;
 /// assert_eq!(sheet.to_string(), text);
+/// assert_eq!("same 0 1 | apart 2 0".parse::<lihumbay::Sheet>()?.lots(), 2);
 /// let error = "same 1 2 |".parse::<lihumbay::Sheet>().unwrap_err();
 /// assert_eq!(error.to_string(), "line 1, column 11: a term should stand here: `same` or `apart`, and two lots");
 /// # Ok::<(), lihumbay::TextError>(())
@@ -104,6 +106,15 @@ mod tests {
     }
 
     #[test]
+    fn lot_0_is_named_as_any_other_and_not_counted() {
+        let sheet: Sheet = "same 0 3 | apart 00 0\nsame 2 0".parse().unwrap();
+        assert_eq!(sheet.lots(), 3);
+        assert_eq!(sheet.conditions()[0].terms(), [Term::Same(0, 3), Term::Apart(0, 0)]);
+        assert_eq!(sheet.to_string(), "lots 3\nsame 0 3 | apart 0 0\nsame 2 0\n");
+        assert_eq!("same 0 0\napart 0 0".parse::<Sheet>().unwrap().to_string(), "lots 0\nsame 0 0\napart 0 0\n");
+    }
+
+    #[test]
     fn errors_say_where() {
         assert_eq!(error("same 1 2\n  sme 1 2").0, 2);
         let cases = [
@@ -119,13 +130,14 @@ mod tests {
             ("lots", 5, "the number of lots is missing"),
             ("lots 129", 6, "129 lots: a sheet has at most 128"),
             ("same 99999 1", 6, "`99999`: a lot's number should stand here"),
-            ("same 1 2 | apart 1 200", 20, "lot 200 is out of range: lots count from 1 to 128"),
-            ("apart 0 1", 7, "lot 0 is out of range: lots count from 1 to 1"),
+            ("same 1 2 | apart 1 200", 20, "lot 200 is out of range: lots count from 0 to 128"),
+            ("same 0 -1", 8, "`-1`: a lot's number should stand here"),
         ];
         for (text, column, why) in cases {
             assert_eq!(error(text), (1, column, why.to_string()), "{text}");
         }
-        assert_eq!(error("lots 2\nsame 1 2 | same 2 3"), (2, 19, "lot 3 is out of range: lots count from 1 to 2".into()));
+        assert_eq!(error("lots 2\nsame 1 2 | same 2 3"), (2, 19, "lot 3 is out of range: lots count from 0 to 2".into()));
+        assert_eq!(error("lots 0\nsame 0 0 | same 0 1"), (2, 19, "lot 1 is out of range: lots count from 0 to 0".into()));
         assert_eq!(error("same 1 2\nlots 3"), (2, 1, "`lots` stands once, before the conditions".into()));
         assert_eq!(error("lots 1\nlots 1").0, 2);
         assert_eq!(error("é same 1 2").1, 1);

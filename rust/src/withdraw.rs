@@ -86,6 +86,14 @@ mod tests {
         assert_eq!(withdraw(SHUFFLED, 1).and_then(|bytes| withdraw(&bytes, 2)), Ok(expected));
     }
 
+    /// The record of "same 0 0" has one byte that isn't zero; withdrawn, it is vacant.
+    #[test]
+    fn a_term_over_lot_0_alone_is_blanked() {
+        let (sheet, without) = ([0, 0, 1, 0, 1, 0, 1, 0, 1, 0, 0, 0, 0, 0, 0, 0], [0, 0, 1, 0, 1, 0, 0, 0, 0, 0, 0, 0, 0, 0, 0, 0]);
+        assert_eq!(withdraw(&sheet, 1), Ok(without.to_vec()));
+        assert_eq!(withdraw(&without, 1), Ok(without.to_vec()));
+    }
+
     #[test]
     fn numbers_out_of_range_name_no_condition() {
         for condition in [0, 3, 257, 65_537, u32::MAX] {

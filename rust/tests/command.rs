@@ -279,7 +279,7 @@ fn a_merged_sheet_that_is_too_large_is_refused() {
 
 #[test]
 fn wrong_text_is_refused_with_its_place() {
-    let lot = "standard input: line 2, column 20: lot 9 is out of range: lots count from 1 to 3";
+    let lot = "standard input: line 2, column 20: lot 9 is out of range: lots count from 0 to 3";
     assert_complained(&run(&["encode"], b"lots 3\nsame 1 2 | apart 3 9"), 2, lot);
     let never = run(&["encode"], b"never");
     assert!(

@@ -1,6 +1,6 @@
 //! Made-up sheets, texts and bytes: what one function writes another one reads, and nothing panics.
 use lihumbay::{
-    Evaluation, HEAD_LENGTH, HEADER_LENGTH, MOST_LOTS, RECORD_LENGTH, RecordList, Sheet, SheetBuilder, TERM_LENGTH, Term, Verdict,
+    Evaluation, HEAD_LENGTH, HEADER_LENGTH, MOST_LOTS, RECORD_LENGTH, RecordList, Sheet, SheetBuilder, TERM_LENGTH, Term, Verdict, ZERO_LOT,
 };
 
 /// A small generator, the same at each run.
@@ -18,13 +18,14 @@ impl Random {
         order
     }
 
+    /// A term over lots 0 to this one.
     fn term(&mut self, lots: u16) -> Term {
-        let (a, b) = (self.below(lots.into()) as u16 + 1, self.below(lots.into()) as u16 + 1);
+        let (a, b) = (self.below(usize::from(lots) + 1) as u16, self.below(usize::from(lots) + 1) as u16);
         if self.below(2) == 0 { Term::Same(a, b) } else { Term::Apart(a, b) }
     }
 
     fn sheet(&mut self) -> Sheet {
-        let lots = self.below(6) as u16 + 1;
+        let lots = self.below(7) as u16;
         let mut builder = SheetBuilder::new(lots).unwrap();
         for _ in 0..self.below(9) {
             let terms: Vec<Term> = (0..self.below(30).min(3)).map(|_| self.term(lots)).collect();
@@ -118,14 +119,21 @@ fn a_merged_sheet_has_the_conditions_of_both_once() {
 #[test]
 fn verdicts_pass_the_other_services() {
     let mut random = Random(2);
-    let (mut met, mut cannot) = (0, 0);
+    let (mut met, mut with_zero_lot, mut cannot) = (0, 0, 0);
     for _ in 0..2000 {
-        let sheet = random.sheet().to_bytes();
+        let written = random.sheet();
+        let sheet = written.to_bytes();
         let (mut grouping, mut store) = ([0; MOST_LOTS], [0; 500 * RECORD_LENGTH]);
         match lihumbay::search_into(&sheet, &mut grouping, &mut store).unwrap() {
             Verdict::Met { grouping, .. } => {
                 met += 1;
                 assert_eq!(lihumbay::evaluate(&sheet, grouping.as_bytes()), Ok(Evaluation::AllMet));
+                let smallest = |lot: usize, group: &[usize]| grouping.class_of(lot as u16) == Some(group[0] as u8);
+                assert!(grouping.groups().iter().all(|group| group.iter().all(|&lot| smallest(lot, group))));
+                if !grouping.with_zero_lot().is_empty() {
+                    with_zero_lot += 1;
+                    assert!(written.names_lot(ZERO_LOT));
+                }
             }
             Verdict::Cannot { refutation } => {
                 cannot += 1;
@@ -134,7 +142,7 @@ fn verdicts_pass_the_other_services() {
             Verdict::Full { capacity } => panic!("{capacity} records are enough for so small a sheet"),
         }
     }
-    assert!(met > 100 && cannot > 100, "{met} met, {cannot} cannot");
+    assert!(met > 100 && with_zero_lot > 100 && cannot > 100, "{met} met, {with_zero_lot} with lot 0, {cannot} cannot");
 }
 
 #[test]

@@ -1,4 +1,4 @@
-//! The services through the package's types, on the sheets of document 01.
+//! The services through the package's types, on the sheets of document 01 and on sheets that name lot 0.
 use lihumbay::{
     Evaluation, MOST_CONDITIONS, MOST_RECORDS, MOST_TERMS, MergeRefusal, RECORD_LENGTH, Record, RecordList, SEARCH_STACK, Sheet,
     SheetBuilder, Subject, Term, Verdict,
@@ -289,6 +289,106 @@ fn the_merged_sheet_has_the_limits_of_a_sheet() {
     assert_eq!(lihumbay::merge(&most_conditions(), &most_conditions()), Ok(most_conditions()));
     assert_eq!(lihumbay::merge(&deepest(), &deepest()), Ok(deepest()));
     assert_eq!(lihumbay::merge(&deepest(), &sheet("apart 1 1")), Ok(deepest()));
+}
+
+/// Lot 0 in either field of a term, and in a class that grows.
+const Z: &str = include_str!("../../samples/zero.txt");
+/// Nothing meets this, since lot 0 has one number.
+const ZERO_CANNOT: &str = "same 0 1\nsame 2 0\napart 1 2";
+
+#[test]
+fn lot_0_has_its_number_in_both_fields_of_a_term() {
+    let terms = [
+        [1, 0, 0, 0, 1, 0, 0, 0], // same 0 1
+        [1, 0, 1, 0, 2, 0, 3, 0], // same 1 2, goes on at record 3
+        [1, 0, 3, 0, 0, 0, 0, 0], // same 3 0
+        [2, 0, 2, 0, 0, 0, 0, 0], // apart 2 0
+    ];
+    assert_eq!(sheet(Z), [[3, 0, 3, 0, 4, 0, 1, 0, 2, 0, 4, 0].as_slice(), &terms.concat()].concat());
+    assert_eq!(sheet("same 0 0"), [0, 0, 1, 0, 1, 0, 1, 0, 1, 0, 0, 0, 0, 0, 0, 0]);
+    assert_eq!(Sheet::from_bytes(&sheet(Z)).map(|read| read.to_bytes()), Ok(sheet(Z)));
+}
+
+#[test]
+fn a_search_splits_on_lot_0_as_it_is_written() {
+    assert_eq!(searched(Z), "split 0 1 0, split 1 2 4, ground 3, split 3 0 0, met [0, 2, 0] of 5");
+    assert_eq!(searched(ZERO_CANNOT), "split 0 1 5, split 2 0 4, ground 3, ground 2, ground 1, cannot of 5");
+    assert_eq!(searched("same 0 0"), "met [] of 1");
+    assert_eq!(searched("apart 0 0"), "ground 1, cannot of 1");
+    // An open "apart" term takes no decision, so lots 1 and 2 have the numbers that they have by themselves.
+    assert_eq!(searched("apart 0 1 | same 1 2"), "met [1, 2] of 1");
+    // Lots 3 and 2 are joined first, and then with lot 0: all three have the smallest lot, which is 0.
+    assert_eq!(searched("same 3 2\nsame 2 0"), "split 3 2 0, split 2 0 0, met [1, 0, 0] of 3");
+}
+
+#[test]
+fn the_group_of_lot_0_is_told_from_the_others() {
+    let Ok(Verdict::Met { grouping, .. }) = lihumbay::search(&sheet(Z)) else { panic!("the sheet can be met") };
+    assert_eq!(grouping.groups(), [vec![0, 1, 3], vec![2]]);
+    assert_eq!((grouping.with_zero_lot(), grouping.lots(), grouping.class_of(0)), (vec![1, 3], 3, Some(0)));
+    let Ok(Verdict::Met { grouping, .. }) = lihumbay::search(&sheet("apart 0 1")) else { panic!("the sheet can be met") };
+    assert_eq!((grouping.groups(), grouping.with_zero_lot()), (vec![vec![1]], vec![]));
+}
+
+#[test]
+fn the_evaluator_gives_lot_0_the_number_0_whatever_the_grouping() {
+    let evaluated = |grouping: &[u8]| lihumbay::evaluate(&sheet(Z), grouping);
+    assert_eq!(evaluated(&[0, 2, 0]), Ok(Evaluation::AllMet));
+    assert_eq!(evaluated(&[0, 255, 0, 7]), Ok(Evaluation::AllMet));
+    assert_eq!(evaluated(&[7, 2, 7]), Ok(Evaluation::Unmet(1)));
+    assert_eq!(evaluated(&[0, 7, 7]), Ok(Evaluation::Unmet(2)));
+    assert_eq!(evaluated(&[0, 0, 7]), Ok(Evaluation::Unmet(3)));
+    assert_eq!(evaluated(&[0, 2]).map_err(|refusal| (refusal.check.number(), refusal.place)), Err((8, 3)));
+    assert_eq!(lihumbay::evaluate(&sheet("same 0 0"), &[]), Ok(Evaluation::AllMet));
+    assert_eq!(lihumbay::evaluate(&sheet("same 0 0\napart 0 0"), &[7]), Ok(Evaluation::Unmet(2)));
+}
+
+#[test]
+fn a_list_may_split_on_lot_0_and_a_ground_names_no_condition_0() {
+    let checked = |text: &str, records: &[Record]| {
+        let list: Vec<u8> = records.iter().flat_map(|record| record.to_bytes().unwrap()).collect();
+        lihumbay::check(&sheet(text), &list).map_err(|refusal| (refusal.check.number(), refusal.place))
+    };
+    let split = |a, b, next| Record::Split { a, b, next };
+    let ground = |condition| Record::Ground { condition };
+    let rest = [split(2, 0, 4), ground(3), ground(2), ground(1)];
+    let behind = |first: Record| [[first].as_slice(), &rest].concat();
+    assert_eq!(checked(ZERO_CANNOT, &behind(split(0, 1, 5))), Ok(()));
+    assert_eq!(checked(ZERO_CANNOT, &behind(split(1, 0, 5))), Ok(()));
+    assert_eq!(checked(ZERO_CANNOT, &behind(split(0, 0, 5))), Err((12, 3)));
+    assert_eq!(checked(ZERO_CANNOT, &behind(split(3, 0, 5))), Err((11, 1)));
+    assert_eq!(checked(ZERO_CANNOT, &behind(split(0, 3, 5))), Err((11, 1)));
+    assert_eq!(checked(ZERO_CANNOT, &[ground(0)]), Err((11, 1)));
+    // Also where no term names lot 0, and where there is no other lot.
+    assert_eq!(checked("apart 1 1", &[split(0, 1, 3), ground(1), ground(1)]), Ok(()));
+    assert_eq!(checked("apart 0 0", &[split(0, 0, 3), ground(1), ground(1)]), Ok(()));
+    assert_eq!(checked("apart 0 0", &[split(0, 1, 3), ground(1), ground(1)]), Err((11, 1)));
+}
+
+#[test]
+fn lot_0_is_packed_withdrawn_and_merged_as_any_other() {
+    let without = lihumbay::withdraw(&sheet(Z), 1).unwrap();
+    assert_eq!(without[12..20], [0; 8]);
+    assert_eq!(lihumbay::repack(&without), Ok(sheet("lots 3\nwithdrawn\nsame 1 2 | same 3 0\napart 2 0")));
+    let merged = lihumbay::merge(&sheet("same 0 0"), &sheet("same 0 1\nsame 0 0\nsame 1 0"));
+    assert_eq!(merged, Ok(sheet("same 0 0\nsame 0 1\nsame 1 0")));
+    assert_eq!(lihumbay::merge(&sheet(Z), &sheet(Z)), Ok(sheet(Z)));
+}
+
+#[test]
+fn a_record_of_same_0_0_is_a_term_and_one_of_zeros_is_vacant() {
+    let read = |changes: &[(usize, u8)]| {
+        let mut bytes = sheet("same 0 0");
+        changes.iter().for_each(|&(at, to)| bytes[at] = to);
+        lihumbay::read(&bytes).map(|reading| reading.records).map_err(|refusal| (refusal.check.number(), refusal.place))
+    };
+    assert_eq!(read(&[]), Ok(1));
+    assert_eq!(read(&[(6, 0)]), Err((7, 1)));
+    assert_eq!(read(&[(8, 0)]), Err((17, 1)));
+    assert_eq!(read(&[(6, 0), (8, 0)]), Ok(1));
+    assert_eq!(read(&[(8, 0), (10, 1)]), Err((5, 1)));
+    assert_eq!(read(&[(10, 1)]), Err((5, 1)));
+    assert_eq!(read(&[(12, 1)]), Err((5, 1)));
 }
 
 #[test]
