@@ -1,4 +1,4 @@
-//! The command on the sheets of document 01: what it prints, and how it ends.
+//! The command on the sheets of document 01, and on sheets that name lot 0: what it prints, and how it ends.
 mod support;
 
 use lihumbay::{RECORD_LENGTH, Record};
@@ -71,6 +71,65 @@ fn a_sheet_that_is_met_has_its_groups() {
     assert_said(&run(&["search"], C), 0, "met: 2 groups, 4 records\n  1 3\n  2\n");
     assert_said(&run(&["search"], &encoded("")), 0, "met: 0 groups, 1 record\n");
     assert_said(&run(&["search"], &encoded("withdrawn")), 0, "met: 0 groups, 1 record\n");
+}
+
+const ZERO: &str = include_str!("../../samples/zero.txt");
+
+const ZERO_CANNOT_REPORT: &str = "\
+cannot be met: refutation of 5 records
+1  split 0 1
+2    same 0 1: split 2 0
+3      same 2 0: ground, condition 3: apart 1 2
+4      apart 2 0: ground, condition 2: same 2 0
+5    apart 0 1: ground, condition 1: same 0 1
+";
+
+const ZERO_GRAPH: &str = r#"digraph search {
+  node [shape=box];
+  1 [label="1\nsplit 0 1"];
+  2 [label="2\nsplit 1 2"];
+  1 -> 2 [label="same 0 1"];
+  3 [label="3\nground, condition 3\napart 2 0", style=filled];
+  2 -> 3 [label="same 1 2"];
+  4 [label="4\nsplit 3 0"];
+  2 -> 4 [label="apart 1 2"];
+  5 [label="5\nmet\n0: 1 3", peripheries=2];
+  4 -> 5 [label="same 3 0"];
+}
+"#;
+
+#[test]
+fn the_group_of_lot_0_has_a_line_of_its_own() {
+    assert_said(&run(&["search"], &encoded(ZERO)), 0, "met: 2 groups, 5 records\n  0: 1 3\n  2\n");
+    assert_said(&run(&["search"], &encoded("same 0 1\nsame 1 2")), 0, "met: 1 group, 3 records\n  0: 1 2\n");
+    assert_said(&run(&["search"], &encoded("same 0 1\nsame 2 0\napart 1 2")), 1, ZERO_CANNOT_REPORT);
+    // Nothing is together with lot 0, and the sheet names it.
+    assert_said(&run(&["search"], &encoded("apart 0 1\nsame 1 2")), 0, "met: 2 groups, 2 records\n  0:\n  1 2\n");
+    assert_said(&run(&["search"], &encoded("same 0 0")), 0, "met: 1 group, 1 record\n  0:\n");
+    // A withdrawn condition names nothing.
+    let without = run(&["withdraw", "1"], &encoded("apart 0 1\nsame 1 1")).out;
+    assert_said(&run(&["search"], &without), 0, "met: 1 group, 1 record\n  1\n");
+}
+
+#[test]
+fn the_group_of_lot_0_is_drawn() {
+    assert_said(&run(&["search", "--dot"], &encoded(ZERO)), 0, ZERO_GRAPH);
+    let alone = run(&["search", "--dot"], &encoded("apart 0 1"));
+    assert!(alone.text().contains(r#"1 [label="1\nmet\n0:", peripheries=2];"#), "{}", alone.text());
+}
+
+#[test]
+fn lot_0_has_the_number_0_in_files_too() {
+    let (sheet, grouping) = (Scratch::with("sheet", &encoded(ZERO)), Scratch::unwritten("grouping"));
+    assert_eq!(run(&["search", sheet.path(), "--grouping", grouping.path()], &[]).status, 0);
+    assert_eq!(grouping.bytes(), Some(vec![0, 2, 0]));
+    assert_said(&run(&["evaluate", sheet.path(), grouping.path()], &[]), 0, "all conditions are met\n");
+    assert_said(&run(&["evaluate", sheet.path()], &[7, 2, 7]), 1, "condition 1 is not met: same 0 1\n");
+    let list = Scratch::unwritten("list");
+    let cannot = Scratch::with("cannot", &encoded("same 0 1\nsame 2 0\napart 1 2"));
+    assert_eq!(run(&["search", cannot.path(), "--refutation", list.path()], &[]).status, 1);
+    let passed = "passed: a refutation of 5 records, so nothing meets the sheet\n";
+    assert_said(&run(&["check", cannot.path(), list.path()], &[]), 0, passed);
 }
 
 #[test]
@@ -167,7 +226,9 @@ fn text_goes_to_bytes_and_back() {
     assert_eq!(encoded("# sheet C\nsame 1 2|same 1 3\n\napart 1 2"), C);
     assert_eq!(encoded("\u{feff}same 1 2 | same 1 3\r\napart 1 2\r\n"), C);
     assert_said(&run(&["decode"], C), 0, "lots 3\nsame 1 2 | same 1 3\napart 1 2\n");
-    for text in ["lots 0\n", "lots 7\nwithdrawn\nsame 7 7\nwithdrawn\n", "lots 128\napart 128 1 | same 2 2\n"] {
+    let with_lot_0 = ["lots 0\nsame 0 0\n", "lots 3\nsame 0 3 | apart 3 0\n", "lots 128\napart 0 128\n"];
+    for text in ["lots 0\n", "lots 7\nwithdrawn\nsame 7 7\nwithdrawn\n", "lots 128\napart 128 1 | same 2 2\n"].into_iter().chain(with_lot_0)
+    {
         assert_said(&run(&["decode"], &encoded(text)), 0, text);
     }
 }

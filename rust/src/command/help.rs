@@ -49,6 +49,10 @@ The line `withdrawn` is a condition with no term, which everything meets.
 `lots N` may stand before the conditions; without it the lots are 1 to the
 highest named. `#` begins a comment. Empty lines are passed over.
 
+A term may also name lot 0, which is in every sheet and has the number 0:
+`same 0 3` asks the number 0 of lot 3, `apart 0 3` another one. `lots N` doesn't
+count lot 0.
+
 A sheet has at most {MOST_LOTS} lots, {MOST_CONDITIONS} conditions and {MOST_TERMS} terms.
 "
     )
@@ -114,6 +118,8 @@ Usage: lihumbay search [OPTIONS] [SHEET]
 
 Searches for a grouping that meets the sheet. The report is
   met            and a line for each group, the lots that have one number;
+                 where the sheet names lot 0, the first of them is `0:` and
+                 the lots that are together with it, if there are any;
   cannot be met  and the refutation, a line for each of its records: a split,
                  and below it what follows when its lots are the same, then
                  when they are apart; a ground with its condition, of which
@@ -122,11 +128,13 @@ Searches for a grouping that meets the sheet. The report is
 
 Options:
   --records N        a store of N records, at most (and if not given) {MOST_RECORDS}
-  --dot              no report: the nodes visited, as a Graphviz graph
+  --dot              no report: the nodes visited, as a Graphviz graph; the
+                     node that is met has the report's line `0:`, if any
   --refutation FILE  if there is a refutation, write its records to FILE, which
                      `lihumbay check` takes
-  --grouping FILE    if there is a grouping, write its bytes to FILE, which
-                     `lihumbay evaluate` takes
+  --grouping FILE    if there is a grouping, write its bytes to FILE, one for
+                     each lot from 1 on, which `lihumbay evaluate` takes; lots
+                     that are together with lot 0 have byte 0
 
 Exit status: 0 met, 1 cannot be met, 2 a refused sheet, 3 store full.
 "
@@ -144,8 +152,9 @@ Exit status: 0 passed, 1 the list is refused, 2 the sheet is refused.
 const EVALUATE: &str = "\
 Usage: lihumbay evaluate SHEET [GROUPING]
 
-Says whether a grouping meets the sheet: a byte for each lot, its number. Where
-it doesn't, the lowest condition that isn't met is named.
+Says whether a grouping meets the sheet: a byte for each lot from 1 on, its
+number. Lot 0 has no byte, and its number is 0. Where the grouping doesn't meet
+the sheet, the lowest condition that isn't met is named.
 
 Exit status: 0 all conditions are met, 1 one isn't, 2 the sheet is refused or
 the grouping is shorter than the number of lots.

@@ -1,14 +1,26 @@
 //! The readable report of a search.
-use lihumbay::{Above, Branch, Grouping, Record, RecordList, Sheet, Step, Term};
+use lihumbay::{Above, Branch, Grouping, Record, RecordList, Sheet, Step, Term, ZERO_LOT};
 use std::io::{self, Write};
 
 /// The deepest indentation, in splits. What stands deeper says how deep it does.
 const DEEPEST: usize = 40;
 
-pub fn met(out: &mut dyn Write, grouping: &Grouping, records: &RecordList) -> io::Result<()> {
-    let groups = grouping.groups();
+/// A line for each group, lot 0's before the others.
+pub fn met(out: &mut dyn Write, sheet: &Sheet, grouping: &Grouping, records: &RecordList) -> io::Result<()> {
+    let others = grouping.groups().into_iter().filter(|group| !group.contains(&ZERO_LOT.into()));
+    let groups: Vec<String> = zero_group(sheet, grouping).into_iter().chain(others.map(|group| spaced(&group))).collect();
     writeln!(out, "met: {}, {}", counted(groups.len(), "group"), counted(records.count(), "record"))?;
-    groups.iter().try_for_each(|group| writeln!(out, "  {}", spaced(group)))
+    groups.iter().try_for_each(|group| writeln!(out, "  {group}"))
+}
+
+/// Lot 0, and behind a colon the lots that are together with it. Who names lot 0 is told also where it is by itself; of other sheets nothing is said, since a
+/// search leaves it by itself there.
+pub fn zero_group(sheet: &Sheet, grouping: &Grouping) -> Option<String> {
+    let others = grouping.with_zero_lot();
+    if others.is_empty() {
+        return sheet.names_lot(ZERO_LOT).then(|| format!("{ZERO_LOT}:"));
+    }
+    Some(format!("{ZERO_LOT}: {}", spaced(&others)))
 }
 
 /// A line for each record, under the split that it belongs to.

@@ -51,7 +51,7 @@ fn save(search: &Search, verdict: &Verdict) -> Result<(), Failure> {
 
 fn tell(accepted: &Accepted, verdict: &Verdict) -> Result<Status, Failure> {
     files::print(|out| match verdict {
-        Verdict::Met { grouping, records } => report::met(out, grouping, records),
+        Verdict::Met { grouping, records } => report::met(out, &accepted.sheet, grouping, records),
         Verdict::Cannot { refutation } => report::cannot(out, &accepted.sheet, refutation),
         Verdict::Full { capacity } => writeln!(out, "{}", full(*capacity)),
     })
@@ -59,8 +59,8 @@ fn tell(accepted: &Accepted, verdict: &Verdict) -> Result<Status, Failure> {
 
 fn draw(accepted: &Accepted, verdict: &Verdict) -> Result<Status, Failure> {
     match verdict {
-        Verdict::Met { records, .. } => files::print(|out| dot::graph(out, &accepted.sheet, records)),
-        Verdict::Cannot { refutation } => files::print(|out| dot::graph(out, &accepted.sheet, refutation)),
+        Verdict::Met { grouping, records } => files::print(|out| dot::graph(out, &accepted.sheet, records, Some(grouping))),
+        Verdict::Cannot { refutation } => files::print(|out| dot::graph(out, &accepted.sheet, refutation, None)),
         // There is no graph, so nothing goes where one is expected.
         Verdict::Full { capacity } => Err(Failure::new(full(*capacity)).with(Status::Full)),
     }
