@@ -5,9 +5,12 @@
    written (grouping and store of a search, output of the repacker and of a merge) overlaps no other buffer of the call; buffers that are only read may overlap
    each other, so that a sheet may be merged with itself.
 
-   Limits. A sheet has at most 128 lots, 256 conditions and 1,024 term records, vacant ones included, so at most 8,710 bytes. A record of a store or list has 8
-   bytes; a store holds its length divided by 8, rounded down, at most 65,535 records; a list has at most 65,535. Nothing has to be checked beforehand: what is
-   wrong is refused.
+   Limits. A sheet has at most 128 lots, lot 0 not counted, 256 conditions and 1,024 term records, vacant ones included, so at most 8,710 bytes. A record of a
+   store or list has 8 bytes; a store holds its length divided by 8, rounded down, at most 65,535 records; a list has at most 65,535. Nothing has to be checked
+   beforehand: what is wrong is refused.
+
+   Lot 0. Beside its lots 1 to n every sheet has lot 0, also where n is 0, and terms and splits may name it. Its number is 0 in every assignment, and a grouping
+   has no byte for it: the n bytes are those of lots 1 to n, and a lot with byte 0 is together with lot 0.
 
    Threads. A call reads and writes only what it is lent, and its own stack: any number of calls may run at once as long as none writes what another uses. No
    call allocates, blocks, or touches a global.
@@ -47,7 +50,8 @@ extern "C" {
       18  the merged sheet's conditions or terms are above the most     2 or 3
       19  the output is shorter than the merged sheet                   the merged sheet's length
 
-   A condition whose head is zero is withdrawn, and everything meets it. A term record of eight zero bytes is vacant: it belongs to no condition. */
+   A condition whose head is zero is withdrawn, and everything meets it. A term record of eight zero bytes is vacant: it belongs to no condition. One whose sign
+   is 1, and whose other bytes are zero, is the term "same 0 0". A lot is malformed, in checks 5 and 11, where it is above n. */
 typedef struct {
     uint32_t check;
     uint32_t first;
@@ -55,22 +59,22 @@ typedef struct {
     uint32_t third;
 } lihumbay_numbers;
 
-/* The reader: lots, conditions, term records, vacant ones included. Checks 1 to 7 and 17. */
+/* The reader: lots, lot 0 not counted, conditions, term records, vacant ones included. Checks 1 to 7 and 17. */
 lihumbay_numbers lihumbay_read(const uint8_t *sheet, size_t sheet_length);
 
 /* The search: 1 met or 2 cannot be met, then the count of records, then 0. Checks 1 to 9 and 17.
-   Met: the first bytes of the grouping, one for each lot, are written: the smallest lot of its class.
+   Met: the first bytes of the grouping, one for each lot from lot 1 on, are written: the smallest lot of its class, 0 exactly where that is lot 0's class.
    Met or cannot: the first 8 * count bytes of the store are written, one record for each node in the order of visit. Cannot: they are a refutation.
    Check 9, store full: the first 8 * `first` bytes of the store are zero.
    No other byte of either buffer is written. */
 lihumbay_numbers lihumbay_search(const uint8_t *sheet, size_t sheet_length, uint8_t *grouping, size_t grouping_length, uint8_t *store, size_t store_length);
 
 /* The evaluator: 0 where the grouping meets every condition, else the lowest condition that it doesn't meet; then 0, 0. Lot i has byte i - 1 of the grouping as
-   its number. Checks 1 to 8 and 17. */
+   its number, and lot 0, which has no byte, the number 0. Checks 1 to 8 and 17. */
 lihumbay_numbers lihumbay_evaluate(const uint8_t *sheet, size_t sheet_length, const uint8_t *grouping, size_t grouping_length);
 
-/* The refutation checker: 0, 0, 0 where the list, records from any hand, is a refutation of the sheet; then nobody can meet the sheet. The search's own is the
-   first 8 * count bytes of its store where it answers 2. Checks 1 to 7, 10 to 15 and 17. */
+/* The refutation checker: 0, 0, 0 where the list, records from any hand, is a refutation of the sheet; then nobody can meet the sheet, whichever number lot 0
+   had. The search's own is the first 8 * count bytes of its store where it answers 2. Checks 1 to 7, 10 to 15 and 17. */
 lihumbay_numbers lihumbay_check(const uint8_t *sheet, size_t sheet_length, const uint8_t *list, size_t list_length);
 
 /* The repacker: the bytes written, then 0, 0. Checks 1 to 7, 16 and 17; an output as long as the sheet is never too short, nor is one of 8,710 bytes.
@@ -86,7 +90,8 @@ lihumbay_numbers lihumbay_repack(const uint8_t *sheet, size_t sheet_length, uint
    The first `first` bytes of out are written: the packed sheet that has the larger number of lots, and the conditions of the first sheet in their order, then
    those of the second in theirs, less each one that repeats an earlier one, of either sheet. A condition repeats another where it has the same terms in the
    same order: the same sign, and the same two lots in the same order. Two withdrawn conditions, which have no term, repeat each other too. What 18 counts is
-   what is left: 512 conditions and 2,048 terms may come in. An assignment of numbers to lots meets the merged sheet exactly where it meets both sheets.
+   what is left: 512 conditions and 2,048 terms may come in. An assignment of numbers to lots meets the merged sheet exactly where it meets both sheets; lot 0
+   is one lot for both.
    No other byte of out is written, and on a refusal none is. */
 lihumbay_numbers lihumbay_merge(const uint8_t *first, size_t first_length, const uint8_t *second, size_t second_length, uint8_t *out, size_t out_length);
 
