@@ -1,13 +1,11 @@
--- The evaluator's cases, in document 01's numbers, and what those say of meaning; and what its inner functions ask of their callers.
+-- The evaluator's cases, in document 01's numbers, and what those say of meaning.
 use Prim.Native.Nat.{ℕ, zero, suc, _≤_, _<_}
 use mathlib.Core.List.{List}
-use lib.ListN.{length}
 use Rattle.sheet.specs.declared.Verdict.{Verdict}
 use Rattle.sheet.specs.declared.Verdict.the-variants.{Passes, Refuses}
-use Rattle.sheet.specs.Format.{lotCount, conditionCount}
+use Rattle.sheet.specs.Format.{conditionCount}
 use Rattle.sheet.specs.Conditions.{conditionAt, conditions}
 use Rattle.sheet.specs.Answers.{Answer, refused, answered}
-use Rattle.sheet.specs.Inner.{HasConditions}
 use Rattle.equality.specs.Meaning.{MeetsCondition}
 use Rattle.equality.specs.Evaluator.{groupingVerdict, numberIn, lowestUnmet, GroupingMeets}
 use Rattle.evaluator.specs.declared.Evaluation.{Evaluation}
@@ -46,10 +44,3 @@ Evaluated (answered (suc c) second third) s grouping =
     (suc c ≤ conditionCount s)
     × (¬ MeetsCondition (numberIn grouping) (conditionAt s (suc c)))
     × ((d : ℕ) → 1 ≤ d → d < suc c → MeetsCondition (numberIn grouping) (conditionAt s d))
-
--- ---- what inner functions ask
-
--- The sheet is accepted, with m conditions, and the grouping has a number for each lot: checks 1 to 8 and 17 have passed.
-pub record Evaluable (s grouping : List ℕ) (m : ℕ) : Type 0 where
-  pub sheet : HasConditions s m
-  pub room : lotCount s ≤ length grouping

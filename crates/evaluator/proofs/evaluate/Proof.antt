@@ -43,10 +43,10 @@ returns c =
     ensured s grouping
     (ap (λ (n : ℕ). Refused 8 n) (a .lots) ∙ case-by s grouping (Refuses 8 _) (grouping-short s grouping (a .accepted) (omega (arith, a .lots, c .if1 .taken))))
 
-first-unmet-requires : tie.Need-first-unmet-requires
-first-unmet-requires c κs =
+evaluate-accepted-requires : tie.Need-evaluate-accepted-requires
+evaluate-accepted-requires c κs =
     let a = accepted (c .before .before) in
-    record { sheet = record { accepted = a .accepted; counted = a .conditions }; room = omega (arith, a .lots, c .if1 .left) }
+    (record { accepted = a .accepted; counted = a .conditions }, a .lots, omega (arith, c .if1 .left))
 
 returns-2 : tie.Need-returns-2
 returns-2 c =
@@ -64,7 +64,7 @@ returns-3 c =
     let s = begun reading .args .sheet .now in
     let grouping = begun reading .args .grouping .now in
     ensured s grouping
-    (c .first-unmet .ensures ∙ case-by s grouping Passes (all-pass s grouping (a .accepted) (omega (arith, a .lots, c .before .if1 .left))))
+    (c .evaluate-accepted .ensures ∙ case-by s grouping Passes (all-pass s grouping (a .accepted) (omega (arith, a .lots, c .before .if1 .left))))
 
 pub evaluate-spec : {M : Type 1} → statement M
 evaluate-spec =
@@ -76,6 +76,6 @@ evaluate-spec =
     cast-if1
     cast-t12
     returns
-    first-unmet-requires
+    evaluate-accepted-requires
     returns-2
     returns-3)

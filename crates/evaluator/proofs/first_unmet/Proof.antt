@@ -11,18 +11,19 @@ use Rattle.sheet.proofs.Accepted.{Sound, sound}
 use Rattle.sheet.proofs.ChainEnds.{head-on}
 use Rattle.sheet.proofs.Scanning.{Scanning, scanning-start, found-here, scanning-next, none-found}
 use Rattle.equality.specs.Meaning.{meetsCondition}
-use Rattle.equality.specs.Evaluator.{numberIn, lowestUnmet}
+use Rattle.equality.specs.Evaluator.{lowestUnmet}
 use Rattle.evaluator.specs.declared.Evaluation.the-variants.{Unmet}
 use Rattle.evaluator.specs.Answers.{unmetOr}
+use Rattle.evaluator.specs.Numbers.{numberAt}
 use Rattle.evaluator.proofs.Scanning.{lowest-goes}
 use Rattle.evaluator.proofs.first_unmet.Statement.{statement}
 use Rattle.evaluator.proofs.first_unmet.Tie as tie
 
 abbrev Inv-loop : tie.InvT-loop
-Inv-loop sheet m grouping c₀ c = Scanning (lowestUnmet (numberIn grouping)) sheet c
+Inv-loop sheet m numbers c₀ c = Scanning (lowestUnmet (numberAt numbers)) sheet c
 
 abbrev μ-loop : tie.MeasureT-loop
-μ-loop sheet m grouping c₀ c = m - c
+μ-loop sheet m numbers c₀ c = m - c
 
 loop-holds : tie.Need-loop-holds Inv-loop μ-loop
 loop-holds c = scanning-start _ _
@@ -36,8 +37,8 @@ module _ (c : tie.In-loop Inv-loop μ-loop) where
   abbrev s : List ℕ
   s = begun c .args .sheet .now
 
-  abbrev numbers : ℕ → ℕ
-  numbers = numberIn (begun c .args .grouping .now)
+  abbrev assigned : ℕ → ℕ
+  assigned = numberAt (begun c .args .numbers .now)
 
   facts : Sound s
   facts = sound s (begun c .pre .sheet .accepted)
@@ -61,17 +62,17 @@ is-met-requires c κs =
 
 -- What `is_met` answers is whether the next condition is met.
 answer : (c : tie.After-is-met Inv-loop μ-loop)
-    → c .is-met .result ≡ meetsCondition (numbers (c .before .before)) (conditionAt (s (c .before .before)) (suc (c .before .before .before .loop .c)))
+    → c .is-met .result ≡ meetsCondition (assigned (c .before .before)) (conditionAt (s (c .before .before)) (suc (c .before .before .before .loop .c)))
 answer c =
     let turn = c .before .before in
     c .is-met .ensures
-    ∙ ap (λ (r : ℕ). meetsCondition (numbers turn) (termsFrom (s turn) r)) (c .before .head-at .ensures)
-    ∙ ap (λ (n : ℕ). meetsCondition (numbers turn) (conditionAt (s turn) n)) (add-one (turn .before .loop .c))
+    ∙ ap (λ (r : ℕ). meetsCondition (assigned turn) (termsFrom (s turn) r)) (c .before .head-at .ensures)
+    ∙ ap (λ (n : ℕ). meetsCondition (assigned turn) (conditionAt (s turn) n)) (add-one (turn .before .loop .c))
 
 returns : tie.Need-returns Inv-loop μ-loop
 returns c =
     let turn = c .before .before .before in
-    let lowest = found-here (lowest-goes (numbers turn)) (turn .before .loop .inv) (below turn) (sym (answer (c .before)) ∙ not-true _ (c .if1 .taken)) in
+    let lowest = found-here (lowest-goes (assigned turn)) (turn .before .loop .inv) (below turn) (sym (answer (c .before)) ∙ not-true _ (c .if1 .taken)) in
     ap (λ (n : ℕ). Unmet (record { 0 = n })) (add-one (turn .before .loop .c)) ∙ ap unmetOr (sym lowest)
 
 loop-less : tie.Need-loop-less Inv-loop μ-loop
@@ -81,12 +82,12 @@ loop-again : tie.Need-loop-again Inv-loop μ-loop
 loop-again c =
     let turn = c .before .before .before in
     rw (add-one (turn .before .loop .c))
-    (scanning-next (lowest-goes (numbers turn)) (turn .before .loop .inv) (below turn) (sym (answer (c .before)) ∙ not-false _ (c .if1 .left)))
+    (scanning-next (lowest-goes (assigned turn)) (turn .before .loop .inv) (below turn) (sym (answer (c .before)) ∙ not-false _ (c .if1 .left)))
 
 returns-2 : tie.Need-returns-2 Inv-loop μ-loop
 returns-2 c =
     let start = c .before .before .before .before in
-    rw (none-found (lowest-goes (numberIn (start .args .grouping .now))) (c .before .loop .inv) (omega (arith, c .loop-test .left, start .pre .sheet .counted)))
+    rw (none-found (lowest-goes (numberAt (start .args .numbers .now))) (c .before .loop .inv) (omega (arith, c .loop-test .left, start .pre .sheet .counted)))
 
 pub first-unmet-spec : {M : Type 1} → statement M
 first-unmet-spec =

@@ -13,9 +13,9 @@ use Rattle.sheet.specs.Conditions.{Term, termOf, termAt, recordsFrom, termsFrom
 use Rattle.sheet.proofs.Accepted.{has-record, sound}
 use Rattle.sheet.proofs.ChainEnds.{rest-shorter}
 use Rattle.equality.specs.Meaning.{anyTerm, holds, meetsCondition}
-use Rattle.equality.specs.Evaluator.{numberIn}
 use Rattle.equality.proofs.Withdrawn.{chain-some}
 use Rattle.equality.proofs.Passing.{passing-start, found, passing-next, ended}
+use Rattle.evaluator.specs.Numbers.{numberAt}
 use Rattle.evaluator.proofs.FirstTrue.{EveryTermPassedIsFalse, beforeFirstTrue, not-withdrawn, no-further, first-true}
 use Rattle.evaluator.proofs.Lots.{lots-numbered}
 use Rattle.evaluator.proofs.is_met.Statement.{statement}
@@ -23,10 +23,10 @@ use Rattle.evaluator.proofs.is_met.Tie as tie
 
 -- Every term that the loop has passed, from the chain's first to the one before the record at hand, is false; the answer so far is whether there is no term.
 abbrev Inv-loop : tie.InvT-loop
-Inv-loop sheet m grouping at₀ met₀ at met = EveryTermPassedIsFalse (numberIn grouping) sheet (at₀ .0) (at .0) × (met ≡ eqb (at₀ .0) 0)
+Inv-loop sheet m numbers at₀ met₀ at met = EveryTermPassedIsFalse (numberAt numbers) sheet (at₀ .0) (at .0) × (met ≡ eqb (at₀ .0) 0)
 
 abbrev μ-loop : tie.MeasureT-loop
-μ-loop sheet m grouping at₀ met₀ at met = length (recordsFrom sheet (at .0))
+μ-loop sheet m numbers at₀ met₀ at met = length (recordsFrom sheet (at .0))
 
 -- ---- a state's start, and what is lent
 
@@ -36,8 +36,8 @@ begun l = l .before .before .before .before
 abbrev bytes : tie.Start Inv-loop μ-loop → List ℕ
 bytes start = start .args .sheet .now
 
-abbrev numbers : tie.Start Inv-loop μ-loop → ℕ → ℕ
-numbers start = numberIn (start .args .grouping .now)
+abbrev assigned : tie.Start Inv-loop μ-loop → ℕ → ℕ
+assigned start = numberAt (start .args .numbers .now)
 
 -- The condition's terms.
 abbrev terms : tie.Start Inv-loop μ-loop → List Term
@@ -75,14 +75,14 @@ tested c = turn c .before .before
 
 -- and whether the record's term is true,
 abbrev truth : tie.After-is-true Inv-loop μ-loop → Bool
-truth c = holds (numbers (begun (tested c))) (termAt (bytes (begun (tested c))) (tested c .loop .at .0))
+truth c = holds (assigned (begun (tested c))) (termAt (bytes (begun (tested c))) (tested c .loop .at .0))
 
 -- which is the answer.
 answer : (c : tie.After-is-true Inv-loop μ-loop) → truth c ≡ c .is-true .result
 answer c =
     sym
     (c .is-true .ensures
-    ∙ ap (λ (t : written.Term). holds (numbers (begun (tested c))) (termOf (t .sign) (t .a .0) (t .b .0))) (c .before .term-at .ensures))
+    ∙ ap (λ (t : written.Term). holds (assigned (begun (tested c))) (termOf (t .sign) (t .a .0) (t .b .0))) (c .before .term-at .ensures))
 
 -- A term that the loop passes is false;
 passed-false : (c : tie.Else2 Inv-loop μ-loop) → truth (c .before) ≡ false
@@ -110,12 +110,12 @@ loop-again c =
 -- ---- where the loop ends
 
 -- At each turn it has passed no more terms than stand before the first true one, so that the term which it reads is that one or stands before it;
-reads-no-further : (l : tie.At-loop Inv-loop μ-loop) → length (l .loop .inv .0 .passed) ≤ beforeFirstTrue (numbers (begun l)) (terms (begun l))
+reads-no-further : (l : tie.At-loop Inv-loop μ-loop) → length (l .loop .inv .0 .passed) ≤ beforeFirstTrue (assigned (begun l)) (terms (begun l))
 reads-no-further l = no-further (l .loop .inv .0)
 
 -- and the term that it leaves at is the first true one: those before it are passed, and no other.
 leaves-at-first-true : (c : tie.Then2 Inv-loop μ-loop)
-    → length (tested (c .before) .loop .inv .0 .passed) ≡ beforeFirstTrue (numbers (begun (tested (c .before)))) (terms (begun (tested (c .before))))
+    → length (tested (c .before) .loop .inv .0 .passed) ≡ beforeFirstTrue (assigned (begun (tested (c .before)))) (terms (begun (tested (c .before))))
 leaves-at-first-true c =
     let l = tested (c .before) in
     first-true (l .loop .inv .0) (accepted (begun l)) (record-number (turn (c .before))) (left-at-true c)
@@ -123,9 +123,9 @@ leaves-at-first-true c =
 -- ---- what it answers
 
 -- What the loop says of the terms, and whether there are any, decides the condition.
-lifted : (start : tie.Start Inv-loop μ-loop) {b : Bool} → anyTerm (holds (numbers start)) (terms start) ≡ b
-    → (eqb (start .args .head .0) 0 || b) ≡ meetsCondition (numbers start) (terms start)
-lifted start e = sym (chain-some (holds (numbers start)) (bytes start) (accepted start) (start .args .head .0) (start .pre .1 .within) ∙ rw e)
+lifted : (start : tie.Start Inv-loop μ-loop) {b : Bool} → anyTerm (holds (assigned start)) (terms start) ≡ b
+    → (eqb (start .args .head .0) 0 || b) ≡ meetsCondition (assigned start) (terms start)
+lifted start e = sym (chain-some (holds (assigned start)) (bytes start) (accepted start) (start .args .head .0) (start .pre .1 .within) ∙ rw e)
 
 -- At the chain's end no term is true, and the condition is met where it has none;
 returns : tie.Need-returns Inv-loop μ-loop

@@ -4,21 +4,21 @@ use borrow.Author.Tests.{eq-eqb, ne-eqb}
 use Rattle.evaluator.proofs.is_true.Statement.{statement}
 use Rattle.evaluator.proofs.is_true.Tie as tie
 
-number-in-requires : tie.Need-number-in-requires
-number-in-requires c κs = search needs
+number-of-requires : tie.Need-number-of-requires
+number-of-requires c κs = search needs
 
-number-in-requires-2 : tie.Need-number-in-requires-2
-number-in-requires-2 c κs = search needs
+number-of-requires-2 : tie.Need-number-of-requires-2
+number-of-requires-2 c κs = search needs
 
 returns : tie.Need-returns
 returns c =
     let b = c .before .before in
-    rw (b .before .number-in .ensures, b .number-in2 .ensures, eq-eqb _ 1 (c .if1 .taken))
+    rw (b .before .number-of .ensures, b .number-of2 .ensures, eq-eqb _ 1 (c .if1 .taken))
 
 returns-2 : tie.Need-returns-2
 returns-2 c =
     let b = c .before .before in
-    rw (b .before .number-in .ensures, b .number-in2 .ensures, ne-eqb _ 1 (c .if1 .left))
+    rw (b .before .number-of .ensures, b .number-of2 .ensures, ne-eqb _ 1 (c .if1 .left))
 
 pub is-true-spec : {M : Type 1} → statement M
-is-true-spec = tie.close (tie.spec number-in-requires number-in-requires-2 returns returns-2)
+is-true-spec = tie.close (tie.spec number-of-requires number-of-requires-2 returns returns-2)
