@@ -1,14 +1,17 @@
-//! Classes and marks that are changed in place and changed back: members and marks as sets of bits. Lots count from 0; every array has 128 entries and every
-//! index is masked to seven bits, so that no access needs a check of its bounds.
+//! Classes and marks that are changed in place and changed back: members and marks as sets of bits. Of the lots 0 to 128 a set has 1 to 128, so that 128
+//! bits are enough: lot 0 is in the class that is named 0, since what it is joined with always goes over into that one, and a pair of a lot and lot 0 is a
+//! mark of that class alone.
+use crate::terms::LOTS;
 
 pub struct Classes {
-    /// The class of each lot, named by one of its lots.
-    class: [u8; 128],
-    /// The lots of each class.
-    members: [u128; 128],
-    /// For each class the lots that a pair sets apart from one of its own.
-    apart: [u128; 128],
-    sizes: [u8; 128],
+    /// The class of each lot, named by one of its lots, and by 0 where that is in it. There is an entry for each value of a byte, so that no index needs a
+    /// check of its bounds.
+    class: [u8; 256],
+    /// The lots of each class, but for lot 0.
+    members: [u128; LOTS],
+    /// For each class the lots that a pair sets apart from one of its own, but for lot 0.
+    apart: [u128; LOTS],
+    sizes: [u16; LOTS],
 }
 
 /// A join, as needed to undo it: the class that went up in the other, and that one's marks before.
@@ -20,11 +23,23 @@ pub struct Join {
 }
 
 fn index(lot: u8) -> usize {
-    usize::from(lot & 127)
+    usize::from(lot)
 }
 
-fn bit(lot: u8) -> u128 {
-    1 << (lot & 127)
+/// The set of each lot, which is empty for lot 0. A table is quicker than a shift of 128 bits.
+const BITS: [u128; 256] = {
+    let mut bits = [0; 256];
+    let mut lot = 1;
+    while lot < LOTS {
+        bits[lot] = 1 << (lot - 1);
+        lot += 1;
+    }
+    bits
+};
+
+#[inline]
+pub fn bit(lot: u8) -> u128 {
+    BITS[usize::from(lot)]
 }
 
 /// The lots of a set, rising.
@@ -33,20 +48,28 @@ pub fn lots_of(mut set: u128) -> impl Iterator<Item = u8> {
         if set == 0 {
             return None;
         }
-        let lot = set.trailing_zeros() as u8;
+        let lot = set.trailing_zeros() as u8 + 1;
         set &= set - 1;
         Some(lot)
     })
 }
 
+/// Each lot in a class of its own. Lot 0's has a size above that of all others, so that it is always the larger.
+const START: Classes = {
+    let mut classes = Classes { class: [0; 256], members: [0; LOTS], apart: [0; LOTS], sizes: [1; LOTS] };
+    let mut lot = 0;
+    while lot < LOTS {
+        classes.class[lot] = lot as u8;
+        classes.members[lot] = BITS[lot];
+        lot += 1;
+    }
+    classes.sizes[0] = LOTS as u16;
+    classes
+};
+
 impl Classes {
     pub fn new() -> Classes {
-        Classes {
-            class: std::array::from_fn(|lot| lot as u8),
-            members: std::array::from_fn(|lot| 1 << lot),
-            apart: [0; 128],
-            sizes: [1; 128],
-        }
+        START
     }
 
     #[inline]
@@ -59,13 +82,21 @@ impl Classes {
         self.members[index(class)]
     }
 
-    /// Whether two classes are marked apart.
+    /// Whether lot 0's class has a mark.
     #[inline]
-    pub fn marked(&self, x: u8, y: u8) -> bool {
+    pub fn zero_marked(&self) -> bool {
+        self.apart[0] != 0
+    }
+
+    /// Whether two classes are marked apart. Lot 0's has its marks with itself, and the others may lack them: it is the first of two by number. That is spared
+    /// where it has no mark.
+    #[inline]
+    pub fn marked<const ZERO: bool>(&self, x: u8, y: u8) -> bool {
+        let (x, y) = if ZERO { (x.min(y), x.max(y)) } else { (x, y) };
         self.apart[index(x)] & self.members[index(y)] != 0
     }
 
-    /// The smaller of two classes, then the larger.
+    /// The smaller of two classes, then the larger, which is lot 0's where that is one of them.
     #[inline]
     pub fn by_size(&self, x: u8, y: u8) -> (u8, u8) {
         if self.sizes[index(x)] < self.sizes[index(y)] { (x, y) } else { (y, x) }
@@ -119,6 +150,9 @@ impl Classes {
 
     /// The smallest lot of a lot's class.
     pub fn smallest(&self, lot: u8) -> u8 {
-        self.members(self.of(lot)).trailing_zeros() as u8
+        match self.of(lot) {
+            0 => 0,
+            class => self.members(class).trailing_zeros() as u8 + 1,
+        }
     }
 }

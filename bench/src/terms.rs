@@ -9,7 +9,10 @@ pub fn header(sheet: &[u8]) -> (usize, usize, usize) {
     (number(sheet, 0), number(sheet, 2), number(sheet, 4))
 }
 
-/// A term over lots that count from 0.
+/// Lots 0 to 128: an array by lot has so many entries.
+pub const LOTS: usize = 129;
+
+/// A term over lots by their numbers, of which 0 is one.
 #[derive(Clone, Copy, PartialEq, Eq)]
 pub struct Term {
     pub same: bool,
@@ -24,6 +27,6 @@ pub fn chain(sheet: &[u8], condition: usize) -> impl Iterator<Item = Term> {
     std::iter::from_fn(move || {
         let record: &[u8; 8] = sheet[records..].as_chunks().0.get(at.checked_sub(1)?)?;
         at = number(record, 6);
-        Some(Term { same: record[0] == 1, a: record[2].wrapping_sub(1), b: record[4].wrapping_sub(1) })
+        Some(Term { same: record[0] == 1, a: record[2], b: record[4] })
     })
 }

@@ -20,7 +20,7 @@ trait Path {
     fn turn(&mut self) -> Option<Split>;
 }
 
-/// Record number, next, and the lots, which count from 0.
+/// Record number, next, and the lots.
 #[derive(Clone, Copy)]
 struct Split {
     number: usize,
@@ -35,11 +35,11 @@ const MOST_SPLITS: usize = 1024;
 fn step(path: &mut impl Path, lots: usize, conditions: usize, record: &[u8; 8], r: usize, last: bool) -> Option<Numbers> {
     let (first, second, next) = (number(record, 2), number(record, 4), number(record, 6));
     match (record[0], record[1]) {
-        (1, 0) if (1..=lots).contains(&first) && (1..=lots).contains(&second) => {
+        (1, 0) if first <= lots && second <= lots => {
             if path.depth() == MOST_SPLITS {
                 return Some(refused(15, r));
             }
-            path.push(Split { number: r, next, a: (first - 1) as u8, b: (second - 1) as u8 });
+            path.push(Split { number: r, next, a: first as u8, b: second as u8 });
             None
         }
         (2, 0) if (1..=conditions).contains(&first) && second == 0 && next == 0 => {

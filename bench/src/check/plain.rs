@@ -1,6 +1,6 @@
 //! The checker of document 01 word for word: for each ground the classes and the marks are made from the path. It doesn't check the sheet.
 use crate::check::{Path, Split, walk};
-use crate::marks::Marks;
+use crate::marks::{self, ClassOf, Marks};
 use crate::terms::{self, Term};
 use lihumbay::raw::Numbers;
 
@@ -14,12 +14,12 @@ struct Plain {
 
 impl Plain {
     /// The smallest lot of each lot's class.
-    fn classes(&self) -> [u8; 128] {
-        let mut classes: [u8; 128] = std::array::from_fn(|lot| lot as u8);
+    fn classes(&self) -> ClassOf {
+        let mut classes = marks::separate();
         for (split, _) in self.splits.iter().filter(|(_, same)| *same) {
-            let (x, y) = (classes[usize::from(split.a & 127)], classes[usize::from(split.b & 127)]);
+            let (x, y) = (classes[usize::from(split.a)], classes[usize::from(split.b)]);
             if x != y {
-                classes = classes.map(|z| if z == x || z == y { x.min(y) } else { z });
+                marks::join(&mut classes, x, y);
             }
         }
         classes
@@ -43,7 +43,7 @@ impl Path for Plain {
         let apart = || self.splits.iter().filter(|(_, same)| !same).map(|(split, _)| (split.a, split.b));
         self.marks.stamp(&classes, apart(), true);
         let refuted = self.conditions[condition].iter().all(|term| {
-            let (x, y) = (classes[usize::from(term.a & 127)], classes[usize::from(term.b & 127)]);
+            let (x, y) = (classes[usize::from(term.a)], classes[usize::from(term.b)]);
             if term.same { x != y && self.marks.between(x, y) } else { x == y }
         });
         self.marks.stamp(&classes, apart(), false);

@@ -23,6 +23,17 @@ struct Tuned {
     splits: Vec<(Split, Change)>,
 }
 
+impl Tuned {
+    /// Whether all terms are false, where lot 0's class may have marks or has none.
+    #[inline]
+    fn all_false<const ZERO: bool>(&self, terms: &[Term]) -> bool {
+        terms.iter().all(|term| {
+            let (x, y) = (self.classes.of(term.a), self.classes.of(term.b));
+            if term.same { x != y && self.classes.marked::<ZERO>(x, y) } else { x == y }
+        })
+    }
+}
+
 impl Path for Tuned {
     fn depth(&self) -> usize {
         self.splits.len()
@@ -43,11 +54,8 @@ impl Path for Tuned {
     #[inline]
     fn refutes(&mut self, condition: usize) -> bool {
         let (begin, end) = (self.begins[condition], self.begins[condition + 1]);
-        let is_false = |term: &Term| {
-            let (x, y) = (self.classes.of(term.a), self.classes.of(term.b));
-            if term.same { x != y && self.classes.marked(x, y) } else { x == y }
-        };
-        begin < end && self.terms[usize::from(begin)..usize::from(end)].iter().all(is_false)
+        let terms = &self.terms[usize::from(begin)..usize::from(end)];
+        begin < end && if self.classes.zero_marked() { self.all_false::<true>(terms) } else { self.all_false::<false>(terms) }
     }
 
     #[inline]

@@ -4,8 +4,13 @@ use crate::records::answered;
 use crate::terms::{self, Term};
 use lihumbay::raw::Numbers;
 
+/// A lot's number. Lot 0 has no byte, whatever the grouping, and the number 0; its place is found missing as any would be that is past the end, by one test.
+fn number(grouping: &[u8], lot: u8) -> u8 {
+    grouping.get(usize::from(lot).wrapping_sub(1)).copied().unwrap_or(0)
+}
+
 fn is_true(grouping: &[u8], term: Term) -> bool {
-    let together = grouping[usize::from(term.a)] == grouping[usize::from(term.b)];
+    let together = number(grouping, term.a) == number(grouping, term.b);
     together == term.same
 }
 

@@ -41,11 +41,10 @@ fn vacant(record: &[u8; 8]) -> bool {
 }
 
 fn well_formed(counts: &Counts, record: &[u8; 8]) -> bool {
-    let lots = 1..=counts.lots;
     (record[0] == 1 || record[0] == 2)
         && record[1] == 0
-        && lots.contains(&number(record, 2))
-        && lots.contains(&number(record, 4))
+        && number(record, 2) <= counts.lots
+        && number(record, 4) <= counts.lots
         && number(record, 6) <= counts.records
 }
 

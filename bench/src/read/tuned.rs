@@ -40,7 +40,7 @@ struct Gathered {
 impl Gathered {
     #[inline]
     fn with(self, pair: &[[u8; 8]; 2], room: &Pair) -> Gathered {
-        const LEAST: Pair = [1, 1, 1, 0, 1, 1, 1, 0];
+        const LEAST: Pair = [1, 0, 0, 0, 1, 0, 0, 0];
         let bytes = pair.as_flattened().as_chunks::<2>().0;
         let field: Pair = from_fn(|j| u16::from_le_bytes(bytes[j]));
         Gathered {
@@ -52,19 +52,20 @@ impl Gathered {
     }
 }
 
-/// The pass for sheets with a lot and without a vacant record: such a record is wrong here. Within its caller the compiler doesn't do eight fields at a time.
+/// The pass for sheets without a vacant record: such a record is wrong here, as its sign is 0. Within its caller the compiler doesn't do eight fields at a
+/// time.
 #[inline(never)]
 fn fields(n: u16, records: &[[u8; 8]]) -> Fields {
-    let (lot, k) = (n.wrapping_sub(1), records.len() as u16);
-    let room = [1, lot, lot, k, 1, lot, lot, k];
+    let k = records.len() as u16;
+    let room = [1, n, n, k, 1, n, n, k];
     let mut all = Gathered { over: [0; 8], astray: [0; 8], zeros: [0; 8], expected: [0, 0, 0, 2, 0, 0, 0, 3] };
     let (pairs, odd) = records.as_chunks::<2>();
     for pair in pairs {
         all = all.with(pair, &room);
     }
     if let [record] = odd {
-        // A record that names lot 1 and has no next fills the last pair up.
-        all = all.with(&[*record, [1, 0, 1, 0, 1, 0, 0, 0]], &room);
+        // A record that names lot 0 and has no next fills the last pair up.
+        all = all.with(&[*record, [1, 0, 0, 0, 0, 0, 0, 0]], &room);
     }
     Fields {
         wrong: all.over != [0; 8],
@@ -76,29 +77,27 @@ fn fields(n: u16, records: &[[u8; 8]]) -> Fields {
 
 /// The high bit of each of a record's four fields: sign with spare, two lots, next.
 const HIGH: u64 = 0x8000_8000_8000_8000;
-/// The high bits of both lots.
-const LOTS: u64 = 0x8000_8000_0000;
 
 /// The pass for sheets with vacant records. A record is one number, its fields side by side.
 ///
 /// No field is above its most: taken from that with its high bit set it leaves the bit, and it has none itself. `given` then has the high bit of each field
-/// that isn't zero. A lot's is as that of the field before it, the sign or the first lot, and the next's isn't set without the second lot's: so a record that begins
-/// with zero is vacant. A next isn't astray where it is zero, or differs by zero from the following record and that one isn't vacant.
+/// that isn't zero. `signless` has all of a record whose sign is zero, and must have nothing: so a record that begins with zero is vacant. A next isn't
+/// astray where it is zero, or differs by zero from the following record and that one isn't vacant.
 fn fields_with_vacant(n: u64, records: &[[u8; 8]]) -> Fields {
     let most = HIGH | 2 | n << 16 | n << 32 | (records.len() as u64) << 48;
-    let (mut fit, mut mixed, mut astray, mut counts, mut following, mut before) = (HIGH, 0, 0, 0, 2 << 48, 0);
+    let (mut fit, mut signless, mut astray, mut counts, mut following, mut before) = (HIGH, 0, 0, 0, 2 << 48, 0);
     for record in records {
         let record = u64::from_le_bytes(*record);
         let given = record.wrapping_add(!HIGH) & HIGH;
         fit &= most.wrapping_sub(record) & !record;
-        mixed |= (given ^ given << 16) & (given | LOTS);
+        signless |= record & (given >> 15 & 1).wrapping_sub(1);
         astray |= given & (record ^ following).wrapping_add(!HIGH) | before & !(given << 48);
         counts += given >> 15;
         following += 1 << 48;
         before = given;
     }
     let (live, nexts) = (usize::from(counts as u16), (counts >> 48) as usize);
-    Fields { wrong: fit != HIGH || mixed >> 16 != 0, scattered: astray >> 63 != 0, live, ends: live.wrapping_sub(nexts) }
+    Fields { wrong: fit != HIGH || signless != 0, scattered: astray >> 63 != 0, live, ends: live.wrapping_sub(nexts) }
 }
 
 /// Of a record that is well formed or vacant.
@@ -146,8 +145,8 @@ pub fn read(sheet: &[u8]) -> Numbers {
     }
     let (heads, records) = rest.split_at(2 * m);
     let (heads, records) = (heads.as_chunks().0, records.as_chunks().0);
-    // Where a condition is withdrawn, records are likely to be vacant; without lots all are.
-    let expected = n == 0 || heads.iter().fold(false, |any, head| any | (*head == [0; 2]));
+    // Where a condition is withdrawn, records are likely to be vacant.
+    let expected = heads.iter().fold(false, |any, head| any | (*head == [0; 2]));
     let found = if expected { fields_with_vacant(n as u64, records) } else { fields(n as u16, records) };
     let found = if found.wrong && !expected { fields_with_vacant(n as u64, records) } else { found };
     let in_order = !found.scattered && heads_in_order(heads, records, found.ends);

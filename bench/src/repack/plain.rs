@@ -7,11 +7,11 @@ fn put(out: &mut [u8], at: usize, value: usize) {
     out[at..at + 2].copy_from_slice(&(value as u16).to_le_bytes());
 }
 
-/// A record: sign, spare, the lots, which count from 0 in a term, and the next.
+/// A record: sign, spare, the lots and the next.
 fn put_record(out: &mut [u8], at: usize, term: &Term, next: usize) {
     put(out, at, if term.same { 1 } else { 2 });
-    put(out, at + 2, usize::from(term.a) + 1);
-    put(out, at + 4, usize::from(term.b) + 1);
+    put(out, at + 2, usize::from(term.a));
+    put(out, at + 4, usize::from(term.b));
     put(out, at + 6, next);
 }
 

@@ -1,5 +1,6 @@
 //! A sheet laid out for the tuned search: what changes when two lots come to share a class can be looked up by the pair, without a walk over terms.
-use crate::terms::{self, Term};
+use crate::classes::bit;
+use crate::terms::{self, LOTS, Term};
 
 /// A set of conditions, which count from 0.
 pub type Conditions = [u64; 4];
@@ -19,9 +20,10 @@ pub struct Layout {
     pub pairs: Vec<Pair>,
     /// The condition of each "apart" term, and the place of the next one over the same pair.
     pub aparts: Vec<(u8, u16)>,
-    /// For each lot the lots that some term pairs it with.
-    pub partners: [u128; 128],
-    /// For two lots the place of their pair, from 1; 0 where no term pairs them. A row has a power of two, so that no division is needed.
+    /// For each lot the lots that some term pairs it with, but for lot 0.
+    pub partners: [u128; LOTS],
+    /// For two lots the place of their pair, from 1; 0 where no term pairs them. The second isn't lot 0, which has a row and no column. A row has a power
+    /// of two, so that no multiplication is needed.
     places: Vec<u16>,
     shift: u32,
     /// For each condition its "apart" terms over two lots.
@@ -49,8 +51,8 @@ impl Layout {
             begins: [0; 257],
             pairs: Vec::with_capacity(count),
             aparts: Vec::with_capacity(count),
-            partners: [0; 128],
-            places: vec![0; lots << shift],
+            partners: [0; LOTS],
+            places: vec![0; (lots + 1) << shift],
             shift,
             left: [0; 256],
             passed: [0; 4],
@@ -93,22 +95,26 @@ impl Layout {
 
     /// The place of a pair, from 0, which is made where it isn't there.
     fn place(&mut self, a: u8, b: u8) -> usize {
-        let (there, back) = (self.cell(a, b), self.cell(b, a));
+        let (a, b) = (a.min(b), a.max(b));
+        let there = self.cell(a, b);
         if self.places[there] == 0 {
             self.pairs.push(Pair { same: [0; 4], aparts: 0 });
             self.places[there] = self.pairs.len() as u16;
-            self.places[back] = self.pairs.len() as u16;
-            self.partners[usize::from(a & 127)] |= 1 << (b & 127);
-            self.partners[usize::from(b & 127)] |= 1 << (a & 127);
+            if a > 0 {
+                let back = self.cell(b, a);
+                self.places[back] = self.pairs.len() as u16;
+            }
+            self.partners[usize::from(a)] |= bit(b);
+            self.partners[usize::from(b)] |= bit(a);
         }
         usize::from(self.places[there]) - 1
     }
 
     fn cell(&self, a: u8, b: u8) -> usize {
-        usize::from(a) << self.shift | usize::from(b)
+        (usize::from(a) << self.shift) + usize::from(b) - 1
     }
 
-    /// The pair of two partners.
+    /// The pair of two partners, the second not lot 0.
     #[inline]
     pub fn pair(&self, a: u8, b: u8) -> &Pair {
         &self.pairs[usize::from(self.places[self.cell(a, b)]) - 1]

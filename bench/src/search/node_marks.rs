@@ -1,5 +1,5 @@
-//! Two ways for a plain search to have the marks of its nodes in a table. Lots and classes count from 0.
-use crate::marks::Marks;
+//! Two ways for a plain search to have the marks of its nodes in a table. A class is known by its smallest lot.
+use crate::marks::{ClassOf, Marks};
 
 /// The marks of a path. The search says what the path decides and takes back.
 pub trait NodeMarks {
@@ -8,13 +8,13 @@ pub trait NodeMarks {
     /// Whether two classes are marked apart, at a node that is looked at.
     fn between(&self, x: u8, y: u8) -> bool;
     /// A node is looked at from now on, or no more.
-    fn look(&mut self, classes: &[u8; 128], looks: bool);
+    fn look(&mut self, classes: &ClassOf, looks: bool);
     /// Two classes become one, known by the smaller. The number is for taking that back.
     fn join(&mut self, x: u8, y: u8) -> usize;
     fn undo_join(&mut self, number: usize);
     /// Two lots, of classes that aren't marked, are set apart.
-    fn set_apart(&mut self, classes: &[u8; 128], a: u8, b: u8);
-    fn undo_apart(&mut self, classes: &[u8; 128], a: u8, b: u8);
+    fn set_apart(&mut self, classes: &ClassOf, a: u8, b: u8);
+    fn undo_apart(&mut self, classes: &ClassOf, a: u8, b: u8);
 }
 
 /// Document 01 word for word: the pairs set apart, and a table that is set from them and cleared at each node.
@@ -34,7 +34,7 @@ impl NodeMarks for Stamped {
     }
 
     #[inline]
-    fn look(&mut self, classes: &[u8; 128], looks: bool) {
+    fn look(&mut self, classes: &ClassOf, looks: bool) {
         self.marks.stamp(classes, self.apart.iter().copied(), looks);
     }
 
@@ -45,12 +45,12 @@ impl NodeMarks for Stamped {
     fn undo_join(&mut self, _: usize) {}
 
     #[inline]
-    fn set_apart(&mut self, _: &[u8; 128], a: u8, b: u8) {
+    fn set_apart(&mut self, _: &ClassOf, a: u8, b: u8) {
         self.apart.push((a, b));
     }
 
     #[inline]
-    fn undo_apart(&mut self, _: &[u8; 128], _: u8, _: u8) {
+    fn undo_apart(&mut self, _: &ClassOf, _: u8, _: u8) {
         self.apart.pop();
     }
 }
@@ -74,14 +74,16 @@ impl NodeMarks for Undone {
         self.marks.between(x, y)
     }
 
-    fn look(&mut self, _: &[u8; 128], _: bool) {}
+    fn look(&mut self, _: &ClassOf, _: bool) {}
 
     #[inline]
     fn join(&mut self, x: u8, y: u8) -> usize {
         let (small, large) = (x.min(y), x.max(y));
         let before = self.added.len();
-        let lots = if self.marks.any(large) { self.lots } else { 0 };
-        for z in 0..lots {
+        if !self.marks.any(large) {
+            return before;
+        }
+        for z in 0..=self.lots {
             if self.marks.between(large, z) && !self.marks.between(small, z) {
                 self.marks.set(small, z, true);
                 self.added.push((small, z));
@@ -98,12 +100,12 @@ impl NodeMarks for Undone {
     }
 
     #[inline]
-    fn set_apart(&mut self, classes: &[u8; 128], a: u8, b: u8) {
+    fn set_apart(&mut self, classes: &ClassOf, a: u8, b: u8) {
         self.marks.stamp(classes, [(a, b)].into_iter(), true);
     }
 
     #[inline]
-    fn undo_apart(&mut self, classes: &[u8; 128], a: u8, b: u8) {
+    fn undo_apart(&mut self, classes: &ClassOf, a: u8, b: u8) {
         self.marks.stamp(classes, [(a, b)].into_iter(), false);
     }
 }

@@ -1,23 +1,25 @@
 //! The search of document 01 word for word: each node looks at every condition from the first on, passes over the withdrawn ones, and gives each term its value
 //! by the node's classes and marks. It doesn't check the sheet. There are two, which differ in their marks alone.
+use crate::marks::{self, ClassOf};
 use crate::records;
 use crate::search::node_marks::{NodeMarks, Stamped, Undone};
 use crate::search::{End, answer};
 use crate::terms::{self, Term};
 use lihumbay::raw::Numbers;
 
-/// The smallest lot of each lot's class. Lots count from 0 here.
+/// The smallest lot of each lot's class.
 #[derive(Clone, Copy)]
-struct Classes([u8; 128]);
+struct Classes(ClassOf);
 
 impl Classes {
     fn of(&self, lot: u8) -> u8 {
-        self.0[usize::from(lot & 127)]
+        self.0[usize::from(lot)]
     }
 
     fn joined(&self, a: u8, b: u8) -> Classes {
-        let (x, y) = (self.of(a), self.of(b));
-        Classes(self.0.map(|z| if z == x || z == y { x.min(y) } else { z }))
+        let mut joined = *self;
+        marks::join(&mut joined.0, self.of(a), self.of(b));
+        joined
     }
 }
 
@@ -102,8 +104,8 @@ impl<Marks: NodeMarks> Search<'_, Marks> {
         match self.marked_node(classes) {
             Node::Met => {
                 self.write(records::met());
-                for (byte, smallest) in self.grouping.iter_mut().zip(classes.0) {
-                    *byte = smallest + 1;
+                for (byte, smallest) in self.grouping.iter_mut().zip(&classes.0[1..]) {
+                    *byte = *smallest;
                 }
                 End::Met
             }
@@ -117,7 +119,7 @@ impl<Marks: NodeMarks> Search<'_, Marks> {
 
     fn branches(&mut self, classes: &Classes, term: Term) -> End {
         let here = self.count;
-        self.write(records::split(usize::from(term.a) + 1, usize::from(term.b) + 1));
+        self.write(records::split(usize::from(term.a), usize::from(term.b)));
         let join = self.marks.join(classes.of(term.a), classes.of(term.b));
         let end = self.visit(&classes.joined(term.a, term.b));
         self.marks.undo_join(join);
@@ -144,7 +146,7 @@ fn search_by<Marks: NodeMarks>(sheet: &[u8], grouping: &mut [u8], store: &mut [u
         records: records::of_store(store),
         count: 0,
     };
-    let end = search.visit(&Classes(std::array::from_fn(|lot| lot as u8)));
+    let end = search.visit(&Classes(marks::separate()));
     let count = search.count;
     answer(end, search.records, count)
 }

@@ -51,11 +51,17 @@ impl Search<'_> {
     fn first_open(&self, condition: u8, from: usize) -> Option<usize> {
         let end = usize::from(self.layout.begins[usize::from(condition) + 1]);
         let rest = self.layout.sames.get(from..end)?;
-        let open = rest.iter().position(|&(a, b)| !self.classes.marked(self.classes.of(a), self.classes.of(b)))?;
-        Some(from + open)
+        let open = if self.classes.zero_marked() { self.not_marked::<true>(rest) } else { self.not_marked::<false>(rest) };
+        Some(from + open?)
     }
 
-    /// Two lots come to share a class: so do the terms over them.
+    /// The place of the first term that isn't marked, where lot 0's class may have marks or has none.
+    #[inline]
+    fn not_marked<const ZERO: bool>(&self, sames: &[(u8, u8)]) -> Option<usize> {
+        sames.iter().position(|&(a, b)| !self.classes.marked::<ZERO>(self.classes.of(a), self.classes.of(b)))
+    }
+
+    /// Two lots, the second not lot 0, come to share a class: so do the terms over them.
     #[inline]
     fn share(&mut self, a: u8, b: u8) {
         let pair = self.layout.pair(a, b);
@@ -75,16 +81,19 @@ impl Search<'_> {
         }
     }
 
-    /// Joins the smaller class to the larger.
+    /// Joins the smaller class to the larger. Where that is lot 0's, lot 0 is among its lots without being in a set.
     #[inline]
     fn join(&mut self, a: u8, b: u8) -> Join {
         let (x, y) = (self.classes.of(a), self.classes.of(b));
         let (from, into) = self.classes.by_size(x, y);
-        let others = self.classes.members(into);
-        for lot in lots_of(self.classes.members(from)) {
-            for other in lots_of(self.layout.partners[usize::from(lot & 127)] & others) {
+        let (own, others) = (self.classes.members(from), self.classes.members(into));
+        for lot in lots_of(own) {
+            for other in lots_of(self.layout.partners[usize::from(lot)] & others) {
                 self.share(lot, other);
             }
+        }
+        if into == 0 {
+            lots_of(self.layout.partners[0] & own).for_each(|lot| self.share(0, lot));
         }
         self.classes.join(from, into)
     }
@@ -126,7 +135,7 @@ impl Search<'_> {
 
     fn split(&mut self, condition: u8, term: usize) {
         let (a, b) = self.layout.sames[term];
-        self.records[self.count] = records::split(usize::from(a) + 1, usize::from(b) + 1);
+        self.records[self.count] = records::split(usize::from(a), usize::from(b));
         let (record, trail, passed) = (self.count, self.trail.len(), self.passed);
         let join = self.join(a, b);
         self.path.push(Split { record, term, condition, apart: false, trail, passed, join });
@@ -168,8 +177,8 @@ pub fn search(sheet: &[u8], grouping: &mut [u8], store: &mut [u8]) -> Numbers {
     let end = search.run();
     if end == End::Met {
         let (lots, _, _) = terms::header(sheet);
-        for (lot, byte) in grouping[..lots].iter_mut().enumerate() {
-            *byte = search.classes.smallest(lot as u8) + 1;
+        for (lot, byte) in (1..).zip(&mut grouping[..lots]) {
+            *byte = search.classes.smallest(lot);
         }
     }
     let count = search.count;
