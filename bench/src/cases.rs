@@ -1,5 +1,5 @@
 //! The sheets that the searches run on, with the answer and the count that each is known to have.
-use crate::families::{chain, circ, colouring, half_withdrawn, long_condition, mixed, phe, random, two_ways, worst_case};
+use crate::families::{chain, circ, colouring, from_zero, half_withdrawn, long_condition, mixed, phe, random, two_ways, worst_case};
 use crate::records::MOST;
 use crate::sheets::Sheet;
 use crate::slow::{self, First};
@@ -146,9 +146,15 @@ fn withdrawn() -> Vec<Case> {
     ]
 }
 
+/// One of the sheets above with lot 0 for the first of its groups, and the other lots by one number less: lot 0 costs what differs from the sheet's own row.
+fn of_zero() -> Vec<Case> {
+    let colours = from_zero(colouring(14, 4, 20, 100));
+    vec![case("zero-colours", "20 lots in 4 groups, lot 0 a group", "lot 0", colours, Answer::Cannot, 37225)]
+}
+
 pub fn all() -> Vec<Case> {
     let of_before = [long_conditions(), worst_cases(), of_document_001(), random_sheets(), colourings(), chains()];
-    of_before.into_iter().chain([slow_products(), slow_others(), withdrawn()]).flatten().collect()
+    of_before.into_iter().chain([slow_products(), slow_others(), withdrawn(), of_zero()]).flatten().collect()
 }
 
 /// Sheets of one kind for the cost of a node against sizes: a condition of 4 terms multiplies nodes, and each false term is over the pair that was set apart first. The

@@ -144,3 +144,10 @@ pub fn half_withdrawn(sheet: Sheet) -> Sheet {
     }
     half
 }
+
+/// A sheet with each lot's number one less, so that lot 1 becomes lot 0 and a sheet of 129 lots can be had. The order of the lots stays, and with it the
+/// nodes of the search.
+pub fn from_zero(sheet: Sheet) -> Sheet {
+    let lots = sheet.lots - 1;
+    sheet.renumbered(lots, |lot| lot - 1)
+}

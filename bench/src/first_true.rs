@@ -29,6 +29,20 @@ fn term(random: &mut Random, is_true: bool) -> Term {
     if is_same { same(a, b) } else { apart(a, b) }
 }
 
+/// A sheet of such terms with lot 0 in about half of them, as the first lot or as the second. The other lot's number is then that of the term's lots less each
+/// other, by remainders: the grouping's numbers are remainders too, so that a true term stays true and a false one false.
+pub fn with_zero(mut sheet: Sheet) -> Sheet {
+    let mut random = Random::new(2);
+    for term in sheet.conditions.iter_mut().flat_map(|condition| &mut condition.terms) {
+        match random.below(4) {
+            0 => (term.a, term.b) = (0, (term.b + LOTS - term.a) % LOTS),
+            1 => (term.a, term.b) = ((term.a + LOTS - term.b) % LOTS, 0),
+            _ => {}
+        }
+    }
+    sheet
+}
+
 impl Shape {
     /// Whether the conditions are long enough for the place, if there is one.
     pub fn has_its_place(self) -> bool {
@@ -71,6 +85,9 @@ pub fn rows() -> Vec<Shape> {
     forty.into_iter().chain(others).map(shape).collect()
 }
 
+/// What is timed with lot 0 too: its own row has the same terms without it.
+pub const ZERO_ROW: Shape = Shape { conditions: 25, terms: 40, place: Some(40) };
+
 /// The lengths of the table by places.
 pub const LENGTHS: [usize; 3] = [10, 20, 40];
 
@@ -90,10 +107,10 @@ mod tests {
 
     #[test]
     fn terms_are_true_where_the_shape_says_and_both_signs_occur() {
-        let grouping = grouping();
-        let is_true = |term: &Term| (grouping[term.a - 1] == grouping[term.b - 1]) == (term.sign == Sign::Same);
-        for shape in rows().into_iter().chain(places()) {
-            let sheet = shape.sheet();
+        let numbers = [vec![0], grouping()].concat();
+        let is_true = |term: &Term| (numbers[term.a] == numbers[term.b]) == (term.sign == Sign::Same);
+        let own = rows().into_iter().chain(places()).map(|shape| (shape, shape.sheet()));
+        for (shape, sheet) in own.chain([(ZERO_ROW, with_zero(ZERO_ROW.sheet()))]) {
             assert!(
                 sheet.conditions.len() == shape.conditions && sheet.records() == shape.conditions * shape.terms && sheet.records() <= 1024
             );
@@ -108,5 +125,15 @@ mod tests {
             };
             assert!(both_signs(false) && (both_signs(true) || shape.conditions == 1), "{}", shape.key());
         }
+    }
+
+    #[test]
+    fn half_of_the_terms_have_lot_zero_in_either_place_and_no_other_row_has_it() {
+        assert!(rows().contains(&ZERO_ROW) && rows().into_iter().all(|shape| !shape.sheet().names_zero()));
+        let sheet = with_zero(ZERO_ROW.sheet());
+        let count =
+            |has: fn(&Term) -> bool| sheet.conditions.iter().flat_map(|condition| &condition.terms).filter(|term| has(term)).count();
+        let [first, second] = [count(|term| term.a == 0), count(|term| term.b == 0)];
+        assert!((200..300).contains(&first) && (200..300).contains(&second), "{first} and {second} of {}", sheet.terms());
     }
 }

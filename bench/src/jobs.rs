@@ -241,6 +241,13 @@ fn evaluate_job(shape: Shape) -> Job {
     }
 }
 
+/// The same with lot 0 in half of the terms.
+fn evaluate_zero_job() -> Job {
+    let job = evaluate_job(first_true::ZERO_ROW);
+    let sheet = first_true::with_zero(job.sheet);
+    Job { key: format!("zero-{}", job.key), name: format!("{}, half with lot 0", job.name), bytes: sheet.bytes(), sheet, ..job }
+}
+
 /// What a merger answers, by the sheet that comes of the two.
 fn merge_answer(merged: &Sheet) -> Numbers {
     if merged.conditions.len() > 256 {
@@ -267,7 +274,7 @@ pub fn of(service: Service, wanted: &dyn Fn(&str) -> bool) -> Vec<Job> {
         Service::Search => cases::all().into_iter().filter(|case| wanted(&case.key)).map(search_job).collect(),
         Service::Check => check_jobs(wanted),
         Service::Read => sheet_jobs(service, counts),
-        Service::Evaluate => first_true::rows().into_iter().map(evaluate_job).collect(),
+        Service::Evaluate => first_true::rows().into_iter().map(evaluate_job).chain([evaluate_zero_job()]).collect(),
         Service::Repack => sheet_jobs(service, packed_length),
         Service::Merge => pairs::rows().into_iter().filter(|pair| wanted(pair.key)).map(pair_job).collect(),
     };

@@ -90,7 +90,7 @@ fn digest(terms: &[Term]) -> usize {
     terms.iter().fold(0, |digest, term| (digest * FACTOR + value(term)) % PRIME)
 }
 
-/// The term with this value, if one has it: about half of the numbers below the prime are a term's.
+/// The term with this value, if one without lot 0 has it: about half of the numbers below the prime are a term's.
 fn with_value(value: usize) -> Option<Term> {
     let (sign, b, a) = (value / (129 * 129), value / 129 % 129, value % 129);
     match sign {

@@ -10,7 +10,7 @@ pub enum Sign {
     Apart,
 }
 
-/// A term over lots that count from 1.
+/// A term over lots by their numbers: 1 to as many as the sheet has, and 0.
 #[derive(Clone, Copy, Debug, PartialEq, Eq)]
 pub struct Term {
     pub sign: Sign,
@@ -63,6 +63,20 @@ impl Sheet {
     /// A withdrawn condition that has left `vacant` records.
     pub fn withdrawn(&mut self, vacant: usize) {
         self.conditions.push(Condition { terms: Vec::new(), vacant });
+    }
+
+    /// The same conditions over so many lots, with other numbers for the lots that they name.
+    pub fn renumbered(mut self, lots: usize, number: impl Fn(usize) -> usize) -> Sheet {
+        self.lots = lots;
+        for term in self.conditions.iter_mut().flat_map(|condition| &mut condition.terms) {
+            (term.a, term.b) = (number(term.a), number(term.b));
+        }
+        self
+    }
+
+    /// Whether a term names lot 0.
+    pub fn names_zero(&self) -> bool {
+        self.conditions.iter().flat_map(|condition| &condition.terms).any(|term| term.a == 0 || term.b == 0)
     }
 
     /// The term records, vacant ones among them.

@@ -22,10 +22,12 @@ fn term(term: &Term) -> String {
     }
 }
 
-/// A sheet as a script: lots are constants of a sort of their own, and a withdrawn condition is true.
+/// A sheet as a script: lots are constants of a sort of their own, and a withdrawn condition is true. Lot 0 is a constant like the others: only which
+/// numbers are equal counts, and any of them may be called 0.
 fn script(sheet: &Sheet) -> String {
     let mut text = String::from("(set-logic QF_UF)\n(declare-sort L 0)\n");
-    for lot in 1..=sheet.lots {
+    let lowest = if sheet.names_zero() { 0 } else { 1 };
+    for lot in lowest..=sheet.lots {
         text += &format!("(declare-const l{lot} L)\n");
     }
     for condition in &sheet.conditions {
@@ -76,7 +78,7 @@ pub fn solve(folder: &Path, job: &Job) -> Option<Solved> {
 #[cfg(test)]
 mod tests {
     use super::*;
-    use crate::sheets::apart;
+    use crate::sheets::{apart, same};
 
     #[test]
     fn a_withdrawn_condition_is_true() {
@@ -84,5 +86,12 @@ mod tests {
         sheet.withdrawn(2);
         sheet.condition([apart(1, 1)]);
         assert!(script(&sheet).ends_with("(assert true)\n(assert (not (= l1 l1)))\n(check-sat)\n"));
+    }
+
+    #[test]
+    fn lot_zero_is_declared_where_it_is_named() {
+        let mut sheet = Sheet::new(1);
+        sheet.condition([same(0, 1)]);
+        assert!(script(&sheet).ends_with("(declare-const l0 L)\n(declare-const l1 L)\n(assert (= l0 l1))\n(check-sat)\n"));
     }
 }
