@@ -3,8 +3,9 @@ use crate::jobs::{Buffers, Job, OWN, PAINT, Service, packed_length};
 use crate::random::Random;
 use crate::records::{self, refused};
 use crate::repack::{self, Repack};
-use crate::sheets::{Condition, MOST_BYTES, Sheet};
-use crate::{evaluations, families, lists, merges, read, terms};
+use crate::sheets::{Condition, MOST_BYTES, Sheet, apart, same};
+use crate::{check, evaluations, families, lists, merges, read, terms};
+use std::collections::HashSet;
 use std::ops::RangeInclusive;
 
 /// Changed lists are tried where a list is shorter than this.
@@ -165,41 +166,73 @@ fn sheet_agrees(name: String, sheet: &Sheet, shuffled: Option<u64>) {
     outputs(&repack, repack.bytes.len() - 1..=repack.bytes.len() + 1);
 }
 
-/// Random sheets, of few lots and of many, as they are and with each second to sixth condition withdrawn, so that records are vacant. The searches' answers
-/// aren't known beforehand.
-pub fn random_sheets() {
-    for seed in 1..=100 {
-        let mut sheet = families::mixed(seed, 4 + seed as usize);
-        sheet_agrees(format!("random sheet {seed}"), &sheet, Some(seed));
-        sheet.conditions.iter_mut().step_by(2 + seed as usize % 5).for_each(Condition::withdraw);
-        for shuffled in [None, Some(seed)] {
-            let name = format!("random sheet {seed}, some conditions withdrawn");
-            sheet_agrees(name.clone(), &sheet, shuffled);
-            changed_chains(&job_of(Service::Read, name, &sheet, shuffled), seed);
-        }
+/// A random sheet as it is and with each second to sixth condition withdrawn, so that records are vacant.
+fn random_sheet(name: String, mut sheet: Sheet, seed: u64) {
+    sheet_agrees(name.clone(), &sheet, Some(seed));
+    sheet.conditions.iter_mut().step_by(2 + seed as usize % 5).for_each(Condition::withdraw);
+    for shuffled in [None, Some(seed)] {
+        let name = format!("{name}, some conditions withdrawn");
+        sheet_agrees(name.clone(), &sheet, shuffled);
+        changed_chains(&job_of(Service::Read, name, &sheet, shuffled), seed);
     }
 }
 
-/// A small sheet with each set of its conditions withdrawn, read with each change too; and vacant records alone, without a lot.
+/// Random sheets, of few lots and of many. With lot 0: of few lots and of many too, of all 129, and of those at both ends. The searches' answers aren't known
+/// beforehand.
+pub fn random_sheets() {
+    for seed in 1..=100 {
+        let lots = 4 + seed as usize;
+        random_sheet(format!("random sheet {seed}"), families::mixed(seed, lots), seed);
+        let with_zero = match seed % 4 {
+            0 => families::from_zero(families::mixed(seed, 129)),
+            1 => families::mixed_ends(seed),
+            _ => families::from_zero(families::mixed(seed, lots)),
+        };
+        random_sheet(format!("random sheet {seed} with lot 0"), with_zero, seed);
+    }
+}
+
+/// Random lists whose splits name lots at both ends, lot 0 among them, once and twice. Some pass, and others fail at a ground.
+pub fn random_lists() {
+    let (sheet, mut checks) = (families::each_term_of_ends(), HashSet::new());
+    for seed in 1..=2000 {
+        let given = lists::random(seed, sheet.conditions.len());
+        let job = Job { given, ..job_of(Service::Check, format!("random list {seed}"), &sheet, None) };
+        agree(&job, "");
+        checks.insert(check::ALL[0].1(&job.bytes, &job.given).check);
+    }
+    assert!(checks == HashSet::from([0, 12]), "the random lists have only these answers: {checks:?}");
+}
+
+/// Two small sheets, without lot 0 and with it, each with each set of its conditions withdrawn, and sheets without a lot: vacant records alone, and terms
+/// of lot 0 alone. They are read with each change too.
 pub fn withdrawn_sheets() {
-    let whole = families::two_ways(1);
+    let mut vacant = Sheet::new(0);
+    vacant.withdrawn(3);
+    small_sheets("small sheet", &families::two_ways(1), vacant);
+    let mut zero = Sheet::new(0);
+    zero.condition([apart(0, 0), same(0, 0)]);
+    zero.withdrawn(1);
+    zero.condition([same(0, 0)]);
+    small_sheets("small sheet with lot 0", &families::from_zero(families::two_ways(1)), zero);
+}
+
+fn small_sheets(name: &str, whole: &Sheet, without_lots: Sheet) {
     let sets = (0..1 << whole.conditions.len()).map(|set: u32| {
         let mut sheet = whole.clone();
         let withdrawn = |c: &usize| set >> c & 1 == 1;
         (0..sheet.conditions.len()).filter(withdrawn).for_each(|c| sheet.conditions[c].withdraw());
         sheet
     });
-    let mut vacant = Sheet::new(0);
-    vacant.withdrawn(3);
-    for (i, sheet) in sets.chain([vacant]).enumerate() {
+    for (i, sheet) in sets.chain([without_lots]).enumerate() {
         for shuffled in [None, Some(1)] {
-            let name = format!("small sheet {i}, some conditions withdrawn");
+            let name = format!("{name} {i}, some conditions withdrawn");
             sheet_agrees(name.clone(), &sheet, shuffled);
             let read = job_of(Service::Read, name.clone(), &sheet, shuffled);
             changed_readings(&read);
             changed_chains(&read, i as u64);
             changed_repackings(&job_of(Service::Repack, name.clone(), &sheet, shuffled));
-            merges::of_small(&name, &sheet, &whole, shuffled);
+            merges::of_small(&name, &sheet, whole, shuffled);
             for given in evaluations::groupings(sheet.lots, i as u64) {
                 evaluations::changed(&Job { given, ..job_of(Service::Evaluate, name.clone(), &sheet, shuffled) });
             }

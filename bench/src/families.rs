@@ -151,3 +151,22 @@ pub fn from_zero(sheet: Sheet) -> Sheet {
     let lots = sheet.lots - 1;
     sheet.renumbered(lots, |lot| lot - 1)
 }
+
+/// Lots at both ends and in the middle of the 129 that a term can name.
+pub const ENDS: [usize; 6] = [0, 1, 64, 65, 127, 128];
+
+/// As `mixed`, over these lots alone.
+pub fn mixed_ends(seed: u64) -> Sheet {
+    mixed(seed, ENDS.len()).renumbered(128, |lot| ENDS[lot - 1])
+}
+
+/// A condition for each term over these lots, behind one "apart a a" for each of them, which no assignment meets.
+pub fn each_term_of_ends() -> Sheet {
+    let mut sheet = Sheet::new(128);
+    ENDS.into_iter().for_each(|a| sheet.condition([apart(a, a)]));
+    for (a, b) in ENDS.into_iter().flat_map(|a| ENDS.map(|b| (a, b))) {
+        sheet.condition([same(a, b)]);
+        sheet.condition([apart(a, b)]);
+    }
+    sheet
+}

@@ -1,4 +1,6 @@
 //! Lists of records for the checker to walk.
+use crate::families::ENDS;
+use crate::random::Random;
 use crate::records::{self, MOST};
 use crate::search::Search;
 use crate::slow::FREE_LOTS;
@@ -36,6 +38,20 @@ impl List {
         self.tree(grounds - grounds / 2, condition, depth + 1, lots);
         self.turn(split);
         self.tree(grounds / 2, condition, depth + 1, lots);
+    }
+
+    /// A random tree of so many splits over the lots at both ends, for the sheet that has a condition for each term of these. Three grounds in four name a
+    /// condition that no assignment meets, so that the walk goes on; the others any condition.
+    fn random_tree(&mut self, random: &mut Random, splits: usize, conditions: usize) {
+        if splits == 0 {
+            let among = if random.below(4) < 3 { ENDS.len() } else { conditions };
+            return self.ground(1 + random.below(among));
+        }
+        let [a, b] = [(); 2].map(|()| ENDS[random.below(ENDS.len())]);
+        let (split, under) = (self.split(a, b), random.below(splits));
+        self.random_tree(random, under, conditions);
+        self.turn(split);
+        self.random_tree(random, splits - 1 - under, conditions);
     }
 
     /// Each pair set apart, one split for each; the grounds in their same branches name condition 2, which is "apart 1 1".
@@ -129,5 +145,13 @@ pub fn joined(pairs: impl IntoIterator<Item = (usize, usize)>, joins: Joins) -> 
         Joins::Free => list.fill(1, |depth| (1, 1 + depth)),
         Joins::Marked => list.fill(1, |depth| (depth, FREE_LOTS + depth)),
     }
+    list.bytes()
+}
+
+/// For `families::each_term_of_ends`, which has so many conditions: a list of up to twelve splits with right nexts.
+pub fn random(seed: u64, conditions: usize) -> Vec<u8> {
+    let (mut list, mut random) = (List::default(), Random::new(seed));
+    let splits = 1 + random.below(12);
+    list.random_tree(&mut random, splits, conditions);
     list.bytes()
 }

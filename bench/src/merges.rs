@@ -1,5 +1,6 @@
 //! What the mergers are compared on: outputs of several lengths, random pairs of sheets, and pairs of which one sheet is changed, or both.
 use crate::compare::some_changes;
+use crate::families::from_zero;
 use crate::jobs::{self, Job, PAINT};
 use crate::merge::{self, Merge};
 use crate::pairs::random_pair;
@@ -90,16 +91,18 @@ pub fn of_small(name: &str, sheet: &Sheet, other: &Sheet, shuffled: Option<u64>)
     }
 }
 
-/// Random pairs, and the first sheet of each lent twice. Some pairs are refused by 18, for their conditions or for their terms, and some have vacant records.
+/// Random pairs, without lot 0 and with it, and the first sheet of each lent twice. Some pairs are refused by 18, for their conditions or for their terms,
+/// and some have vacant records.
 pub fn random_pairs() {
     let (mut refusals, mut vacant) = (HashSet::new(), false);
-    for seed in 1..=100 {
-        let sheets = random_pair(seed);
+    for (seed, zero) in (1..=100).flat_map(|seed| [(seed, false), (seed, true)]) {
+        let sheets = if zero { random_pair(seed).map(from_zero) } else { random_pair(seed) };
         let both_first = [&sheets[0]; 2].map(Clone::clone);
+        let name = format!("random pair {seed}{}", if zero { " with lot 0" } else { "" });
         for shuffled in [None, Some(seed)] {
-            let job = job_of(&format!("random pair {seed}"), &sheets, shuffled);
+            let job = job_of(&name, &sheets, shuffled);
             near_lengths(&job);
-            near_lengths(&Job { given: Vec::new(), ..job_of(&format!("random sheet {seed} with itself"), &both_first, shuffled) });
+            near_lengths(&Job { given: Vec::new(), ..job_of(&format!("{name}, the first with itself"), &both_first, shuffled) });
             refusals.extend((job.known.check != 0).then_some(job.known));
             vacant |= sheets[0].records() > sheets[0].terms();
         }

@@ -37,13 +37,14 @@ fn compared(service: Service) -> impl Iterator<Item = Job> {
 fn compare_others() {
     compare::withdrawn_sheets();
     compare::random_sheets();
+    compare::random_lists();
     merges::random_pairs();
 }
 
 pub fn compare_all() {
     compare_others();
     let count = Service::ALL.into_iter().flat_map(compared).count();
-    println!("{count} inputs, 33 small and 100 random sheets, 100 random pairs of sheets: all contenders agree");
+    println!("{count} inputs, 66 small and 200 random sheets, 2,000 random lists, 200 random pairs of sheets: all contenders agree");
 }
 
 /// Times the contenders of a job in turns.

@@ -155,3 +155,23 @@ pub fn read(sheet: &[u8]) -> Numbers {
     }
     plain::read(sheet)
 }
+
+#[cfg(test)]
+mod tests {
+    use super::*;
+    use crate::families;
+
+    /// What isn't accepted is read again, so that an answer doesn't show which pass gave it.
+    #[test]
+    fn both_passes_accept_lot_zero() {
+        let sheet = families::from_zero(families::mixed(1, 129));
+        assert!(sheet.names_zero() && sheet.lots == 128);
+        let bytes = sheet.packed();
+        let records = bytes[6 + 2 * sheet.conditions.len()..].as_chunks().0;
+        for found in [fields(128, records), fields_with_vacant(128, records)] {
+            assert!(!found.wrong && !found.scattered && found.live == sheet.terms() && found.ends == sheet.conditions.len());
+        }
+        let zero = [[1, 0, 0, 0, 0, 0, 0, 0]];
+        assert!(!fields(0, &zero).wrong && !fields_with_vacant(0, &zero).wrong);
+    }
+}
