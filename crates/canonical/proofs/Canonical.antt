@@ -9,7 +9,7 @@ use Rattle.sheet.specs.Format.{headerLength, lotCount, conditionCount, recordCo
 use Rattle.sheet.specs.Inner.{headerAt, HasHeader}
 use Rattle.sheet.specs.Checks.{Accepted}
 use Rattle.sheet.specs.Conditions.{Term, same, apart, conditions}
-use Rattle.sheet.specs.Answers.{answered, readAnswer, readAnswerFrom}
+use Rattle.sheet.specs.Answers.{answered, readAnswer, readAnswerWith}
 use Rattle.canonical.specs.Canonical.{termRecord, chainRecords, sheetRecords, headsFrom, canonical, canonicalLength, Within}
 use Rattle.canonical.proofs.Chains.{Laid, laid-accepted, laid-conditions}
 use Rattle.canonical.proofs.Places.{past, length-heads, length-records, drop-past, laid-at}
@@ -70,7 +70,7 @@ module _ (n : ℕ) (tss : List (List Term)) (within : Within n tss) where
 
   -- and "the reader then answers n, m and k".
   pub canonical-read : readAnswer (canonical n tss) ≡ answered n (length tss) (length (flatten tss))
-  unfolding readAnswerFrom
+  unfolding readAnswerWith
   canonical-read = rw (canonical-accepted, canonical-lots, count-conditions, canonical-records)
 
 -- Document 01's sheet C.

@@ -49,7 +49,7 @@ canonicalLength tss = sheetLength (length tss) (length (flatten tss))
 
 -- ---- what a sheet can say
 
--- "lots n (at most 128), conditions m (at most 256), term records k (at most 1,024)", and every term of every condition names lots of the n.
+-- "lots n (at most 128), conditions m (at most 256), term records k (at most 1,024)", and every term of every condition names lots that it may.
 pub record Within (n : ℕ) (tss : List (List Term)) : Type 0 where
   pub lots : n ≤ mostLots
   pub conditions : length tss ≤ mostConditions

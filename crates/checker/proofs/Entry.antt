@@ -15,7 +15,7 @@ use Rattle.sheet.specs.Checks.{Accepted, orElse, refusesIf, firstRefusal, sheet
 use Rattle.sheet.specs.Answers.{refused, answered, answerOf}
 use Rattle.sheet.proofs.Further.{further, further-accepted}
 use Rattle.store.specs.Records.{recordLength, mostNodes}
-use Rattle.refutation.specs.Refutation.{check10, walkVerdict, listVerdict, listVerdictFrom, checkAnswer, checkAnswerFrom}
+use Rattle.refutation.specs.Refutation.{check10, walkVerdict, listVerdict, listVerdictWith, checkAnswer, checkAnswerWith}
 use Rattle.refutation.proofs.Sound.{refutation-sound}
 use Rattle.checker.specs.declared.CheckAnswer.{CheckAnswer}
 use Rattle.checker.specs.declared.CheckAnswer.the-variants.{Passed, Refused}
@@ -36,7 +36,7 @@ module _ (s list : List ℕ) where
   Ensured r = (checkedAnswer r ≡ checkAnswer s list) × (PassedExactly r s list × PassedMeans r s)
 
   pub ensured : (v : Verdict) → listVerdict s list ≡ v → Ensured (caseOf v)
-  unfolding checkAnswerFrom
+  unfolding checkAnswerWith
   ensured Passes e = (sym (ap (λ (w : Verdict). answerOf w (answered 0 0 0)) e), (((λ _. e), (λ _. refl)), (λ _ f. refutation-sound s list e ℕ-discrete f)))
   ensured (Refuses check place) e = (
     sym (ap (λ (w : Verdict). answerOf w (answered 0 0 0)) e),
@@ -48,19 +48,19 @@ module _ (s list : List ℕ) where
 
   -- A sheet that is refused,
   pub sheet-refused : (check place : ℕ) → sheetVerdict s ≡ Refuses check place → listVerdict s list ≡ Refuses check place
-  unfolding listVerdictFrom
+  unfolding listVerdictWith
   sheet-refused check place e =
       further s (check10 list ∷ walkVerdict lowestLot s list ∷ []) ∙ ap (λ (v : Verdict). orElse v (firstRefusal (check10 list ∷ walkVerdict lowestLot s list ∷ []))) e
 
   module _ (ok : Accepted s) where
     -- a list of a length that none has,
     pub size-refused : illSized list ≡ true → listVerdict s list ≡ Refuses 10 0
-    unfolding listVerdictFrom firstRefusal check10
+    unfolding listVerdictWith firstRefusal check10
     size-refused e = further-accepted s (check10 list ∷ walkVerdict lowestLot s list ∷ []) ok ∙ ap (λ (p : Bool). orElse (refusesIf p 10 0) (orElse (walkVerdict lowestLot s list) Passes)) e
 
     -- or the walk decides.
     pub walk-decides : illSized list ≡ false → listVerdict s list ≡ walkVerdict lowestLot s list
-    unfolding listVerdictFrom firstRefusal check10
+    unfolding listVerdictWith firstRefusal check10
     walk-decides e =
         further-accepted s (check10 list ∷ walkVerdict lowestLot s list ∷ []) ok
         ∙ ap (λ (p : Bool). orElse (refusesIf p 10 0) (orElse (walkVerdict lowestLot s list) Passes)) e

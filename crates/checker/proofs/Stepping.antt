@@ -67,7 +67,7 @@ module _ (s : List ℕ) (walkRest : ℕ → List Split → Verdict) (rest : List
   abbrev pub AtSplit : Verdict → Type 0
   AtSplit v = walkRecord lowestLot s walkRest rest r above (splitRecord a b next) ≡ v
 
-  -- A lot is none of the sheet's,
+  -- A lot is out of range,
   pub first-out : lotInRange lowestLot (lotCount s) a ≡ false → AtSplit (Refuses 11 r)
   first-out e = simp e
 

@@ -286,7 +286,8 @@ fn record_step(
 ) -> Step
     requires { ⌜ Counted (now sheet) counts × HasPlace (now list) (at .number) × Walkable (now path) (now maps) (now levels) (at .depth) × (at .number ≤ mostNodes) × Room (now table) 0 ⌝ }
     ensures walk { λ v. ⌜ ((walkRest : WalkRest) (rest : Rest) → at .last ≡ noneLeft rest
-        → walkRecord lowestLot (now (sheet .entry)) walkRest rest (at .number) (pathOf (now (path .entry)) (at .depth)) (recordAt (now (list .entry)) (at .number))
+        → walkRecord lowestLot (now (sheet .entry)) walkRest rest (at .number) (pathOf (now (path .entry)) (at .depth))
+        (recordAt (now (list .entry)) (at .number))
         ≡ stepAs walkRest (at .number + 1) (now (path .exit)) v) ⌝ }
     ensures path { λ v. ⌜ GoesOn (now (path .exit)) (now (maps .exit)) (now (levels .exit)) v ⌝ }
 {

@@ -12,7 +12,7 @@ ghost use Rattle.classes.specs.Pairs.{setApart, withPair, PairsWithin};
 use sheet::Lot;
 
 // An entry for each number that a lot can have, 0 included.
-pub const ENTRIES: usize = 129;
+pub const ENTRIES: usize = sheet::LOT_ENTRIES;
 
 // The entry at a lot's number is the smallest lot of its class.
 pub struct Classes {
@@ -57,8 +57,8 @@ fn joined(x: u8, y: u8, z: u8) -> u8
     z
 }
 
-// The classes x and y become one: every lot of both gets the smaller of the two numbers. A class that is known by 0 stays so, and no other lot is as small: lot
-// 0's class is known by 0 on every path. The entries are lent, wherever a map is kept.
+// The classes x and y become one: every lot of both gets the smaller of the two numbers. A class that is known by 0 stays so: by one join after the other lot
+// 0's class is known by 0 on every path (the law is `zero-class`). The entries are lent, wherever a map is kept.
 pub fn join_entries(lots: &mut [u8], x: u8, y: u8)
     ensures joined { λ _. ⌜ now (lots .exit) ≡ merged x y (now (lots .entry)) ⌝ }
     ensures zero { λ _. ⌜ (classOf (now (lots .entry)) 0 ≡ 0 → classOf (now (lots .exit)) 0 ≡ 0) ⌝ }

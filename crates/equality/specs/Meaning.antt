@@ -1,4 +1,4 @@
--- What it is that an assignment meets a sheet (document 01, "Meaning"; document 02, job 2; source document 001, sections 2.2 and 3.2).
+-- What it is that an assignment meets a sheet (document 01, "Meaning"; document 02, jobs 2 and 5; source document 001, sections 2.2 and 3.2).
 use Prim.Native.Nat.{ℕ}
 use mathlib.Core.Bool.{Bool, true, false, not, _&&_, _||_}
 use mathlib.Core.List.{List, [], _∷_}
@@ -8,8 +8,8 @@ use lib.Dec.{T, eqb}
 use Rattle.buffers.specs.Lists.{All}
 use Rattle.sheet.specs.Conditions.{Term, same, apart, conditions}
 
--- "A numbering gives each lot a whole number.": an assignment (document 01: a numbering) is a function on lots; the values may be of
--- any type.
+-- "A numbering gives each lot a whole number.": an assignment (document 01: a numbering) is a function on lots. In this file, and wherever a law holds of every
+-- such function, the values may be of any type, and lot 0 may have any; what is promised of whole numbers is at the file's end.
 
 -- ""same a b" is true when the two numbers are equal, "apart a b" when they differ; a may equal b."
 abbrev pub Holds : {A : Type 0} → (ℕ → A) → Term → Type 0
@@ -50,21 +50,7 @@ MeetsAll f tss = All (MeetsCondition f) tss
 abbrev pub Meets : {A : Type 0} → (ℕ → A) → List ℕ → Type 0
 Meets f s = MeetsAll f (conditions s)
 
--- ---- assignments into the naturals
-
--- "A numbering gives each lot a whole number", and of lot 0 "its number is 0 in every numbering" (document 02): the assignments that promises speak of.
-abbrev pub Assignment : (ℕ → ℕ) → Type 0
-Assignment f = f 0 ≡ 0
-
--- Some assignment meets the sheet;
-abbrev pub CanBeMet : List ℕ → Type 0
-CanBeMet s = (f : ℕ → ℕ) × Assignment f × Meets f s
-
--- none does.
-abbrev pub CannotBeMet : List ℕ → Type 0
-CannotBeMet s = (f : ℕ → ℕ) → Assignment f → ¬ Meets f s
-
--- ---- the same, computed, for assignments into the naturals
+-- ---- the same, computed, for whole numbers
 
 abbrev pub holds : (ℕ → ℕ) → Term → Bool
 holds f (same a b) = eqb (f a) (f b)
@@ -79,3 +65,17 @@ meetsAll f (ts ∷ tss) = meetsCondition f ts && meetsAll f tss
 
 abbrev pub meets : (ℕ → ℕ) → List ℕ → Bool
 meets f s = meetsAll f (conditions s)
+
+-- ---- the assignments that promises speak of
+
+-- "A numbering gives each lot a whole number", and of lot 0 "its number is 0 in every numbering" (document 02).
+abbrev pub Assignment : (ℕ → ℕ) → Type 0
+Assignment f = f 0 ≡ 0
+
+-- Some assignment meets the sheet;
+abbrev pub CanBeMet : List ℕ → Type 0
+CanBeMet s = (f : ℕ → ℕ) × Assignment f × Meets f s
+
+-- none does.
+abbrev pub CannotBeMet : List ℕ → Type 0
+CannotBeMet s = (f : ℕ → ℕ) → Assignment f → ¬ Meets f s

@@ -31,7 +31,7 @@ abbrev pub classOf : List ℕ → ℕ → ℕ
 classOf cs lot = getD cs lot 0
 
 -- "The same pairs split the lots into consignments; each is known by its smallest lot.": the entry at a lot's number is its class.
--- There is an entry for each number that a lot can have, 0 included; a sheet's own lots are the first.
+-- There is an entry for each number that a lot can have, 0 to 128; lot 0 and the sheet's own lots are the first.
 unfoldable pub classes : Decisions → List ℕ
 classes [] = countUp (suc mostLots) 0
 classes (same a b ∷ ds) = merged (classOf (classes ds) a) (classOf (classes ds) b) (classes ds)

@@ -11,7 +11,7 @@ use Rattle.sheet.specs.Conditions.{conditionAt, conditions}
 use Rattle.sheet.specs.Answers.{answered, answerOf}
 use Rattle.sheet.proofs.Conditions.{conditions-length, conditions-at}
 use Rattle.equality.specs.Meaning.{meetsCondition}
-use Rattle.equality.specs.Evaluator.{groupingVerdict, numberIn, lowestUnmet, evaluateAnswer, evaluateAnswerFrom}
+use Rattle.equality.specs.Evaluator.{groupingVerdict, numberIn, lowestUnmet, evaluateAnswer, evaluateAnswerWith}
 use Rattle.equality.proofs.Meaning.{condition-decides}
 use Rattle.equality.proofs.Evaluator.{evaluator-zero, LowestUnmet, lowest-unmet}
 use Rattle.evaluator.specs.declared.Evaluation.{Evaluation}
@@ -29,7 +29,7 @@ module _ (s grouping : List ℕ) where
   case-by v e = sym (ap (λ (w : Verdict). caseOf w unmet) e)
 
   answer-is : evaluationAnswer (evaluateCase s grouping) ≡ evaluateAnswer s grouping
-  unfolding evaluateCase evaluateAnswerFrom
+  unfolding evaluateCase evaluateAnswerWith
   answer-is = go (groupingVerdict s grouping) unmet
     where
       go : (v : Verdict) (c : ℕ) → evaluationAnswer (caseOf v c) ≡ answerOf v (answered c 0 0)
@@ -55,7 +55,7 @@ module _ (s grouping : List ℕ) where
 
   -- Theorem 8.
   means : Evaluated (evaluateAnswer s grouping) s grouping
-  unfolding evaluateAnswerFrom
+  unfolding evaluateAnswerWith
   means = by (groupingVerdict s grouping) unmet refl
     where
       by : (v : Verdict) (c : ℕ) → unmet ≡ c → Evaluated (answerOf v (answered c 0 0)) s grouping

@@ -23,9 +23,6 @@ pub enum Evaluation {
     Refused { check: u32, place: u32 },
 }
 
-// The numbers of lots 0 to 128, an entry for each.
-const ENTRIES: usize = 129;
-
 // Lots 1 to n get their numbers from a grouping, lot i from byte i − 1. The other entries stay.
 fn number_lots(numbers: &mut [u8], grouping: &[u8], n: usize)
     requires { ⌜ (n < length (now numbers)) × (n ≤ length (now grouping)) ⌝ }
@@ -93,13 +90,13 @@ fn first_unmet(sheet: &[u8], m: u16, numbers: &[u8]) -> Evaluation
     Evaluation::AllMet
 }
 
-// The evaluation of an accepted sheet with n lots and m conditions, by a grouping of at least n bytes. Lot 0 has the number 0. The numbers are copied to an entry
-// for each lot, so that a term's lots, lot 0 among them, are looked up without a test.
+// The evaluation of an accepted sheet with n lots and m conditions, by a grouping of at least n bytes. Lot 0 has the number 0. The numbers are copied to an
+// entry for each lot, so that a term's lots, lot 0 among them, are looked up without a test.
 fn evaluate_accepted(sheet: &[u8], n: u16, m: u16, grouping: &[u8]) -> Evaluation
     requires { ⌜ HasConditions (now sheet) m × (n ≡ lotCount (now sheet)) × (n ≤ length (now grouping)) ⌝ }
     ensures { λ r. ⌜ r ≡ unmetOr (lowestUnmet (numberIn (now (grouping .entry))) 1 (conditions (now (sheet .entry)))) ⌝ }
 {
-    let mut numbers = [0u8; ENTRIES];
+    let mut numbers = [0u8; sheet::LOT_ENTRIES];
     number_lots(&mut numbers, grouping, n as usize);
     first_unmet(sheet, m, &numbers)
 }

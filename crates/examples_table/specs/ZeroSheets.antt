@@ -39,11 +39,12 @@ zeroMet =
     2 ∷ 0 ∷ 2 ∷ 0 ∷ 1 ∷ 0 ∷ 0 ∷ 0 ∷
     2 ∷ 0 ∷ 2 ∷ 0 ∷ 0 ∷ 0 ∷ 0 ∷ 0 ∷ []
 
--- 128 conditions of one term each, "same" of two neighbours, whose lower lots these are, for the numbers 0 to 127: a record is the same bytes as a split on its
--- pair with next 0.
+-- 128 records "same" of two neighbouring lots each, the lower ones given by their place, 0 to 127. Such a record, with next 0, has the bytes of a split on its
+-- pair.
 abbrev pub pairs : (ℕ → ℕ) → List ℕ
 pairs lower = flatten (map (λ i. 1 ∷ 0 ∷ lower i ∷ 0 ∷ suc (lower i) ∷ 0 ∷ 0 ∷ 0 ∷ []) (countUp 128 0))
 
+-- A sheet of 128 lots with these records, each a condition of its own.
 abbrev pub chained : (ℕ → ℕ) → List ℕ
 chained lower = 128 ∷ 0 ∷ 128 ∷ 0 ∷ 128 ∷ 0 ∷ flatten (map (λ i. suc i ∷ 0 ∷ []) (countUp 128 0)) ++ pairs lower
 

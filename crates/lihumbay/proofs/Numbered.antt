@@ -13,7 +13,7 @@ use Rattle.sheet.specs.Checks.{firstRefusal, refusesIf, lotInRange, sheetVerdic
 use Rattle.sheet.proofs.Further.{further}
 use Rattle.sheet.proofs.Numbered.{Numbered, either, test, sheet-numbered}
 use Rattle.store.specs.Records.{NodeRecord, splitRecord, groundRecord, metRecord, noRecord, recordLength, mostNodes, recordsOf}
-use Rattle.refutation.specs.Refutation.{Split, Nearest, noSplit, sameSplit, turned, mostSplits, decisionsOf, groundFails, nearest, mustEnd, afterGround, named, conditionInRange, walkRecord, walkFrom, check10, walkVerdict, listVerdict, listVerdictFrom}
+use Rattle.refutation.specs.Refutation.{Split, Nearest, noSplit, sameSplit, turned, mostSplits, decisionsOf, groundFails, nearest, mustEnd, afterGround, named, conditionInRange, walkRecord, walkFrom, check10, walkVerdict, listVerdict, listVerdictWith}
 
 ended : (rest : List NodeRecord) (following : ℕ) → Numbered (mustEnd rest following)
 ended [] following = tt
@@ -53,7 +53,7 @@ module _ (s list : List ℕ) where
   whole-walk = walk s (recordsOf list) 1 []
 
   pub list-numbered : Numbered (listVerdict s list)
-  unfolding listVerdictFrom firstRefusal
+  unfolding listVerdictWith firstRefusal
   list-numbered =
       subst Numbered (sym (further s (check10 list ∷ walkVerdict lowestLot s list ∷ [])))
       (either (sheetVerdict s) _ (sheet-numbered s) (either (check10 list) _ length-test (either (walkVerdict lowestLot s list) Passes whole-walk tt)))

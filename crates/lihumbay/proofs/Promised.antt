@@ -13,22 +13,22 @@ use Rattle.sheet.specs.Answers.{Answer, refused, answered, answerOf, readAnswer
 use Rattle.sheet.proofs.Verdicts.{not-both}
 use Rattle.sheet.proofs.Readings.{read-accepts, read-refuses}
 use Rattle.sheet.proofs.Numbered.{refusal-number, sheet-numbered}
-use Rattle.equality.specs.Evaluator.{groupingVerdict, numberIn, lowestUnmet, evaluateAnswer, evaluateAnswerFrom}
+use Rattle.equality.specs.Evaluator.{groupingVerdict, numberIn, lowestUnmet, evaluateAnswer, evaluateAnswerWith}
 use Rattle.equality.proofs.Checked.{grouping-numbered}
 use Rattle.evaluator.specs.Answers.{Evaluated}
 use Rattle.store.specs.Records.{recordLength}
 use Rattle.search.specs.Promises.{FullExactly, FullPlace, MetExactly, MetGrouping, MetZero, CannotExactly, CannotWhichever, CannotRefutes, CountBounded}
 use Rattle.search.proofs.Promised.{answer-passing}
-use Rattle.refutation.specs.Refutation.{listVerdict, checkAnswer, checkAnswerFrom}
+use Rattle.refutation.specs.Refutation.{listVerdict, checkAnswer, checkAnswerWith}
 use Rattle.lihumbay.proofs.Numbered.{list-numbered}
 use Rattle.checker.specs.declared.CheckAnswer.{CheckAnswer}
 use Rattle.checker.specs.declared.CheckAnswer.the-variants as check
 use Rattle.checker.specs.Answers.{checkedAnswer, PassedExactly, PassedMeans}
 use Rattle.writer.specs.Answers.{OfWritten}
-use Rattle.repack.specs.Repack.{repackedLength, repackVerdict, repackAnswer, repackAnswerFrom}
+use Rattle.repack.specs.Repack.{repackedLength, repackVerdict, repackAnswer, repackAnswerWith}
 use Rattle.repack.proofs.Answering.{repack-numbered}
 use Rattle.merge.specs.Repeats.{anyCondition}
-use Rattle.merge.specs.Merge.{mergedLength, mergeVerdict, mergeAnswer, mergeAnswerFrom}
+use Rattle.merge.specs.Merge.{mergedLength, mergeVerdict, mergeAnswer, mergeAnswerWith}
 use Rattle.merge.proofs.Answering.{merge-numbered}
 use Rattle.lihumbay.specs.Answers.{numbersOf, mergeNumbers}
 use Rattle.lihumbay.specs.Promises.{ZeroExactly, NineExactly, OneExactly, OneMeets, OneZero, TwoExactly, TwoWhichever, TwoRefutes, NodesBounded, FirstUnmet, ZeroPassed, ZeroMeans, ZeroWritten}
@@ -98,7 +98,7 @@ module _ (s : List ℕ) where
 -- ---- the evaluator
 
 pub first-unmet : (s grouping : List ℕ) (a : Answer) → a ≡ evaluateAnswer s grouping → Evaluated a s grouping → FirstUnmet (numbersOf a) s grouping
-unfolding evaluateAnswerFrom
+unfolding evaluateAnswerWith
 first-unmet s grouping (answered first second third) answer means = λ z. means
 first-unmet s grouping (refused check place) answer means =
     λ z. absurd (omega (arith, z, refusal-number (grouping-numbered s grouping) (answer-refuses (groupingVerdict s grouping) (lowestUnmet (numberIn grouping) 1 (conditions s)) 0 0 answer) .0))
@@ -112,7 +112,7 @@ no-answer check place e = let z : _≡_ {A = ℕ} 0 1 = cc in omega arith
 module _ (s list : List ℕ) where
   -- A refusal's number is not 0.
   list-first : (check place : ℕ) → refused check place ≡ checkAnswer s list → 1 ≤ check
-  unfolding checkAnswerFrom
+  unfolding checkAnswerWith
   list-first check place e = refusal-number (list-numbered s list) (answer-refuses (listVerdict s list) 0 0 0 e) .0
 
   pub zero-passed : (a : CheckAnswer) → checkedAnswer a ≡ checkAnswer s list → PassedExactly a s list → ZeroPassed (numbersOf (checkedAnswer a)) s list
@@ -131,7 +131,7 @@ zero-written P out′ (refused check place) number holds = λ z. absurd (omega (
 zero-written P out′ (answered first second third) number holds = λ z. holds
 
 pub repack-first : (s out : List ℕ) (a : Answer) → a ≡ repackAnswer s out → First a
-unfolding repackAnswerFrom
+unfolding repackAnswerWith
 repack-first s out a answer check place e = refusal-number (repack-numbered s out) (answer-refuses (repackVerdict s out) (repackedLength s) 0 0 (sym e ∙ answer)) .0
 
 -- The sheet behind the place changes nothing of that.
@@ -140,6 +140,6 @@ zero-merged P out′ (refused check place) sheet number holds = λ z. absurd (om
 zero-merged P out′ (answered first second third) sheet number holds = λ z. holds
 
 pub merge-first : (s t out : List ℕ) (a : Answer) → a ≡ mergeAnswer anyCondition s t out → First a
-unfolding mergeAnswerFrom
+unfolding mergeAnswerWith
 merge-first s t out a answer check place e =
     refusal-number (merge-numbered anyCondition s t out) (answer-refuses (mergeVerdict anyCondition s t out) (mergedLength anyCondition s t) 0 0 (sym e ∙ answer)) .0

@@ -22,22 +22,22 @@ use Rattle.writer.specs.Answers.{outputAfter}
 use Rattle.canonical.specs.Canonical.{canonical}
 use Rattle.repack.specs.Promises.{Alike}
 use Rattle.merge.specs.Repeats.{withoutRepeats, anyCondition}
-use Rattle.merge.specs.Merge.{whichRefused, whichRefusedFrom, mergedConditions, merged, mergedLength, check18, check19, mergeVerdict, mergeVerdictFrom, mergeAnswer, mergeAnswerFrom, mergeOut, mergeOutFrom}
+use Rattle.merge.specs.Merge.{whichRefused, whichRefusedWith, mergedConditions, merged, mergedLength, check18, check19, mergeVerdict, mergeVerdictWith, mergeAnswer, mergeAnswerWith, mergeOut, mergeOutWith}
 use Rattle.merge.proofs.Merged.{merged-length, merged-itself, itself-within}
 
 -- ---- which sheet is refused
 
 module _ (s t : List ℕ) where
   pub which-first : (check place : ℕ) → sheetVerdict s ≡ Refuses check place → whichRefused s t ≡ 1
-  unfolding whichRefusedFrom
+  unfolding whichRefusedWith
   which-first check place e = rw e
 
   pub which-second : Accepted s → (check place : ℕ) → sheetVerdict t ≡ Refuses check place → whichRefused s t ≡ 2
-  unfolding whichRefusedFrom
+  unfolding whichRefusedWith
   which-second ok check place e = rw (ok, e)
 
   pub which-neither : Accepted s → Accepted t → whichRefused s t ≡ 0
-  unfolding whichRefusedFrom
+  unfolding whichRefusedWith
   which-neither ok ok′ = rw (ok, ok′)
 
 module _ (mayLeaveOut : List Term → Bool) (s t : List ℕ) where
@@ -63,19 +63,19 @@ module _ (mayLeaveOut : List Term → Bool) (s t : List ℕ) where
 
     -- The first sheet is refused;
     pub first-refused : (check place : ℕ) → sheetVerdict s ≡ Refuses check place → verdict ≡ Refuses check place
-    unfolding mergeVerdictFrom
+    unfolding mergeVerdictWith
     first-refused check place e = further s afterFirst ∙ ap (λ (v : Verdict). orElse v (firstRefusal afterFirst)) e
 
     module _ (ok : Accepted s) where
       -- the second is;
       pub second-refused : (check place : ℕ) → sheetVerdict t ≡ Refuses check place → verdict ≡ Refuses check place
-      unfolding mergeVerdictFrom
+      unfolding mergeVerdictWith
       second-refused check place e =
           further-accepted s afterFirst ok ∙ further t afterBoth ∙ ap (λ (v : Verdict). orElse v (firstRefusal afterBoth)) e
 
       module _ (ok′ : Accepted t) where
         pub both-accepted : verdict ≡ firstRefusal afterBoth
-        unfolding mergeVerdictFrom
+        unfolding mergeVerdictWith
         both-accepted = further-accepted s afterFirst ok ∙ further-accepted t afterBoth ok′
 
         -- the result has too many conditions;
@@ -114,14 +114,14 @@ module _ (mayLeaveOut : List Term → Bool) (s t : List ℕ) where
 
     -- A refusal's number is at least 1 and not 9.
     pub merge-numbered : Numbered verdict
-    unfolding mergeVerdictFrom
+    unfolding mergeVerdictWith
     merge-numbered =
         subst Numbered (sym (further s afterFirst ∙ ap (orElse (sheetVerdict s)) (further t afterBoth)))
         (either (sheetVerdict s) _ (sheet-numbered s) (either (sheetVerdict t) _ (sheet-numbered t) after-numbered))
 
     -- Where none refuses, both sheets are accepted, and the result is within its limits.
     passes-within : verdict ≡ Passes → Accepted s × (Accepted t × ((length result ≤ mostConditions) × (length (flatten result) ≤ mostRecords)))
-    unfolding mergeVerdictFrom firstRefusal check18
+    unfolding mergeVerdictWith firstRefusal check18
     passes-within e =
         let (ok, after) = further-passes s afterFirst e in
         let (ok′, behind) = further-passes t afterBoth after in
@@ -134,11 +134,11 @@ module _ (mayLeaveOut : List Term → Bool) (s t : List ℕ) where
     -- ---- the answer, and the output
 
     pub answer-by : (v : Verdict) → verdict ≡ v → mergeAnswer mayLeaveOut s t out ≡ answerBy v
-    unfolding mergeAnswerFrom
+    unfolding mergeAnswerWith
     answer-by v e = ap answerBy e
 
     pub output-by : (v : Verdict) → verdict ≡ v → mergeOut mayLeaveOut s t out ≡ outputAfter (answerBy v) (merged mayLeaveOut s t) out
-    unfolding mergeOutFrom
+    unfolding mergeOutWith
     output-by v e = ap (λ (a : Answer). outputAfter a (merged mayLeaveOut s t) out) (answer-by v e)
 
     -- Where a length is answered both sheets are accepted, 18 doesn't refuse, and the first bytes of the output, so many, are the merged sheet.
@@ -150,7 +150,7 @@ module _ (mayLeaveOut : List Term → Bool) (s t : List ℕ) where
       pub bytes : take n (mergeOut mayLeaveOut s t out) ≡ merged mayLeaveOut s t
 
     pub fitted : (n second third : ℕ) → answered n second third ≡ mergeAnswer mayLeaveOut s t out → Fitted n
-    unfolding mergeAnswerFrom
+    unfolding mergeAnswerWith
     fitted n second third e = go verdict refl e
       where
         go : (v : Verdict) → verdict ≡ v → answered n second third ≡ answerBy v → Fitted n
@@ -182,11 +182,11 @@ module _ (mayLeaveOut : List Term → Bool) (s s′ t t′ : List ℕ) (alike : 
       ∙ (rw same-conditions) ∙ sym (both-accepted mayLeaveOut s′ t′ out (alike .second) (alike′ .second))
 
   pub alike-answer : (out : List ℕ) → mergeAnswer mayLeaveOut s t out ≡ mergeAnswer mayLeaveOut s′ t′ out
-  unfolding mergeAnswerFrom
+  unfolding mergeAnswerWith
   alike-answer out = rw (same-verdict out, same-conditions)
 
   pub alike-output : (out : List ℕ) → mergeOut mayLeaveOut s t out ≡ mergeOut mayLeaveOut s′ t′ out
-  unfolding mergeOutFrom
+  unfolding mergeOutWith
   alike-output out = rw (alike-answer out, same-conditions, alike .lots, alike′ .lots)
 
 -- ---- a sheet with itself

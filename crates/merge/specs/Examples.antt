@@ -5,13 +5,13 @@ use mathlib.Core.Path.{_≡_, refl}
 use lib.ListN.{replicate}
 use Rattle.buffers.specs.Bytes.{number, twoBytes}
 use Rattle.sheet.specs.Format.{headAt, signAt, spareAt, firstLotAt, secondLotAt, nextAt, zeroBytes, vacant}
-use Rattle.sheet.specs.Checks.{firstRefusal, lowestRefusal, check1, check2, check3, check4, wellFormed, check5, member, walkChain, walkChains, walked, check17And6, check7, sheetChecksFrom, sheetVerdictFrom}
+use Rattle.sheet.specs.Checks.{firstRefusal, lowestRefusal, check1, check2, check3, check4, wellFormed, check5, member, walkChain, walkChains, walked, check17And6, check7, sheetChecksWith, sheetVerdictWith}
 use Rattle.sheet.specs.Conditions.{chain, recordsFrom, termsFrom, countUp, conditions}
 use Rattle.sheet.specs.Answers.{Answer, refused, answered}
 use Rattle.canonical.specs.Canonical.{termRecord, chainRecords, sheetRecords, headsFrom, canonical}
 use Rattle.repack.specs.Examples.{shuffledC, sheetC, vacantOnly, empty, short, unreached, room}
 use Rattle.merge.specs.Repeats.{equalTerms, equalConditions, repeats, withoutRepeats, anyCondition}
-use Rattle.merge.specs.Merge.{whichRefused, whichRefusedFrom, mergedConditions, check18, check19, mergeVerdictFrom, mergeAnswer, mergeAnswerFrom, mergeOut, mergeOutFrom}
+use Rattle.merge.specs.Merge.{whichRefused, whichRefusedWith, mergedConditions, check18, check19, mergeVerdictWith, mergeAnswer, mergeAnswerWith, mergeOut, mergeOutWith}
 
 -- Document 01's sheet C has "same 1 2 or same 1 3" and "apart 1 2". This one has: "apart 1 2"; "same 1 3 or same 1 2"; "same 2 1"; "same 4 5".
 abbrev pub sheetF : List ℕ
@@ -136,5 +136,5 @@ pub mergings :
     ∷ leaves (refused 7 1) 2 []
     ∷ leaves (refused 1 0) 2 (room 4)
     ∷ []
-unfolding number twoBytes headAt signAt spareAt firstLotAt secondLotAt nextAt zeroBytes vacant firstRefusal lowestRefusal check1 check2 check3 check4 wellFormed check5 member walkChain walkChains walked check17And6 check7 sheetChecksFrom sheetVerdictFrom chain recordsFrom termsFrom countUp conditions termRecord chainRecords sheetRecords headsFrom canonical flatten equalTerms equalConditions repeats withoutRepeats whichRefusedFrom mergedConditions check18 check19 mergeVerdictFrom mergeAnswerFrom mergeOutFrom
+unfolding number twoBytes headAt signAt spareAt firstLotAt secondLotAt nextAt zeroBytes vacant firstRefusal lowestRefusal check1 check2 check3 check4 wellFormed check5 member walkChain walkChains walked check17And6 check7 sheetChecksWith sheetVerdictWith chain recordsFrom termsFrom countUp conditions termRecord chainRecords sheetRecords headsFrom canonical flatten equalTerms equalConditions repeats withoutRepeats whichRefusedWith mergedConditions check18 check19 mergeVerdictWith mergeAnswerWith mergeOutWith
 mergings = refl

@@ -7,7 +7,7 @@ use lib.ListN.{length}
 use Rattle.sheet.specs.declared.Verdict.{Verdict}
 use Rattle.sheet.specs.declared.Verdict.the-variants.{Passes, Refuses}
 use Rattle.sheet.specs.Format.{lowestLot, mostConditions, mostRecords, lotCount}
-use Rattle.sheet.specs.Checks.{orElse, refusesIf, firstRefusal, sheetChecksFrom, sheetVerdictFrom}
+use Rattle.sheet.specs.Checks.{orElse, refusesIf, firstRefusal, sheetChecksWith, sheetVerdictWith}
 use Rattle.sheet.specs.Conditions.{Term, conditions}
 use Rattle.sheet.specs.Answers.{Answer, answered, answerOf}
 use Rattle.canonical.specs.Canonical.{canonical, canonicalLength}
@@ -24,11 +24,11 @@ whichOf (Refuses check place) second = 1
 whichOf Passes (Refuses check place) = 2
 whichOf Passes Passes = 0
 
-unfoldable pub whichRefusedFrom : ℕ → List ℕ → List ℕ → ℕ
-whichRefusedFrom lowest s t = whichOf (sheetVerdictFrom lowest s) (sheetVerdictFrom lowest t)
+unfoldable pub whichRefusedWith : ℕ → List ℕ → List ℕ → ℕ
+whichRefusedWith lowest s t = whichOf (sheetVerdictWith lowest s) (sheetVerdictWith lowest t)
 
 abbrev pub whichRefused : List ℕ → List ℕ → ℕ
-whichRefused s t = whichRefusedFrom lowestLot s t
+whichRefused s t = whichRefusedWith lowestLot s t
 
 module _ (mayLeaveOut : List Term → Bool) (s t : List ℕ) where
   -- "the conditions of the first come in order, then those of the second; one with the same terms in the same order as an earlier one is left out"
@@ -55,24 +55,24 @@ module _ (mayLeaveOut : List Term → Bool) (s t : List ℕ) where
 
 module _ (lowest : ℕ) (mayLeaveOut : List Term → Bool) (s t out : List ℕ) where
   -- "The first sheet is checked before the second"; 18 and 19 "both after the two readings": where lots count from `lowest`.
-  unfoldable pub mergeVerdictFrom : Verdict
-  mergeVerdictFrom =
-      firstRefusal (sheetChecksFrom lowest s ++ (sheetChecksFrom lowest t ++ check18 mayLeaveOut s t ∷ check19 mayLeaveOut s t out ∷ []))
+  unfoldable pub mergeVerdictWith : Verdict
+  mergeVerdictWith =
+      firstRefusal (sheetChecksWith lowest s ++ (sheetChecksWith lowest t ++ check18 mayLeaveOut s t ∷ check19 mayLeaveOut s t out ∷ []))
 
   -- "each answers the length it wrote"
-  unfoldable pub mergeAnswerFrom : Answer
-  mergeAnswerFrom = answerOf mergeVerdictFrom (answered (mergedLength mayLeaveOut s t) 0 0)
+  unfoldable pub mergeAnswerWith : Answer
+  mergeAnswerWith = answerOf mergeVerdictWith (answered (mergedLength mayLeaveOut s t) 0 0)
 
   -- The output afterwards: on a refusal "nothing written".
-  unfoldable pub mergeOutFrom : List ℕ
-  mergeOutFrom = outputAfter mergeAnswerFrom (merged mayLeaveOut s t) out
+  unfoldable pub mergeOutWith : List ℕ
+  mergeOutWith = outputAfter mergeAnswerWith (merged mayLeaveOut s t) out
 
 -- As lots do count.
 abbrev pub mergeVerdict : (List Term → Bool) → List ℕ → List ℕ → List ℕ → Verdict
-mergeVerdict mayLeaveOut s t out = mergeVerdictFrom lowestLot mayLeaveOut s t out
+mergeVerdict mayLeaveOut s t out = mergeVerdictWith lowestLot mayLeaveOut s t out
 
 abbrev pub mergeAnswer : (List Term → Bool) → List ℕ → List ℕ → List ℕ → Answer
-mergeAnswer mayLeaveOut s t out = mergeAnswerFrom lowestLot mayLeaveOut s t out
+mergeAnswer mayLeaveOut s t out = mergeAnswerWith lowestLot mayLeaveOut s t out
 
 abbrev pub mergeOut : (List Term → Bool) → List ℕ → List ℕ → List ℕ → List ℕ
-mergeOut mayLeaveOut s t out = mergeOutFrom lowestLot mayLeaveOut s t out
+mergeOut mayLeaveOut s t out = mergeOutWith lowestLot mayLeaveOut s t out

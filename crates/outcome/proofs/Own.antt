@@ -34,7 +34,7 @@ use Rattle.store.specs.Records.{NodeRecord, encodeAll, recordLength, mostNodes}
 use Rattle.outcome.specs.Nodes.{records}
 use Rattle.outcome.proofs.Fitting.{bytes-count, node-count, search-fits}
 use Rattle.store.proofs.Codec.{records-of}
-use Rattle.refutation.specs.Refutation.{mostSplits, Split, decisionsOf, notFalse, groundFails, nearest, turned, afterGround, named, conditionInRange, walkFrom, check10, walkVerdict, listVerdictFrom, Refutes}
+use Rattle.refutation.specs.Refutation.{mostSplits, Split, decisionsOf, notFalse, groundFails, nearest, turned, afterGround, named, conditionInRange, walkFrom, check10, walkVerdict, listVerdictWith, Refutes}
 
 module _ (s : List ℕ) (ok : Accepted s) where
   -- ---- a ground
@@ -131,7 +131,7 @@ module _ (s : List ℕ) (ok : Accepted s) where
 
     -- Theorem 7.
     pub own-grounds-pass : Refutes s (encodeAll (records 1 (searchTree (conditions s))))
-    unfolding listVerdictFrom bytes tree
+    unfolding listVerdictWith bytes tree
     own-grounds-pass =
         further-accepted s (check10 bytes ∷ walkVerdict lowestLot s bytes ∷ []) ok
         ∙ passes-firstRefusal (check10 bytes) (walkVerdict lowestLot s bytes ∷ []) long-enough (passes-firstRefusal (walkVerdict lowestLot s bytes) [] walk-passes (unfold firstRefusal in refl))

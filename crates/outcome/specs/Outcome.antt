@@ -16,7 +16,7 @@ use Rattle.sheet.specs.Checks.{orElse, refusesIf}
 use Rattle.sheet.specs.Answers.{Answer, refused, answered}
 use Rattle.equality.specs.Node.{share}
 use Rattle.equality.specs.Search.{Tree, searchTree, isMet, nodeCount, metDecisions, groupingBytes}
-use Rattle.equality.specs.Evaluator.{groupingVerdict, groupingVerdictFrom, numberIn}
+use Rattle.equality.specs.Evaluator.{groupingVerdict, groupingVerdictWith, numberIn}
 use Rattle.outcome.specs.Nodes.{records}
 use Rattle.store.specs.Records.{encodeAll, recordLength, capacity}
 
@@ -94,12 +94,12 @@ outcomeOf n result grouping store =
     }
 
 -- The search's outcome: where lots count from `lowest`, and as they do.
-unfoldable pub searchOutcomeFrom : ℕ → List ℕ → List ℕ → List ℕ → Outcome
-searchOutcomeFrom lowest s grouping store =
-    outcomeOf (lotCount s) (resultOf (groupingVerdictFrom lowest s grouping) (capacity store) (searchTree (conditions s))) grouping store
+unfoldable pub searchOutcomeWith : ℕ → List ℕ → List ℕ → List ℕ → Outcome
+searchOutcomeWith lowest s grouping store =
+    outcomeOf (lotCount s) (resultOf (groupingVerdictWith lowest s grouping) (capacity store) (searchTree (conditions s))) grouping store
 
 abbrev pub searchOutcome : List ℕ → List ℕ → List ℕ → Outcome
-searchOutcome s grouping store = searchOutcomeFrom lowestLot s grouping store
+searchOutcome s grouping store = searchOutcomeWith lowestLot s grouping store
 
 -- ---- lot 0's class in a grouping
 

@@ -4,18 +4,18 @@ use mathlib.Core.Bool.{true}
 use mathlib.Core.List.{List, _∷_}
 use mathlib.Core.Path.{_≡_}
 use native.Mathlib.Omega.{arith}
-use borrow.Author.Tests.{le-leb}
 use lib.Dec.{leb}
 use lib.ListN.{length}
 use Rattle.sheet.specs.Format.{lowestLot, lotCount}
 use Rattle.sheet.specs.Checks.{orElse, refusesIf, lotInRange}
 use Rattle.sheet.specs.Conditions.{same}
 use Rattle.sheet.specs.declared.Verdict.{Verdict}
+use Rattle.sheet.proofs.Accepted.{lot-in}
 use Rattle.store.specs.Records.{NodeRecord, splitRecord}
 use Rattle.refutation.specs.Refutation.{Split, mostSplits, walkRecord}
 
 every-lot : (n lot : ℕ) → lot ≤ n → lotInRange lowestLot n lot ≡ true
-every-lot n lot high = simp (le-leb lowestLot lot (omega arith), le-leb lot n high)
+every-lot n lot high = lot-in n lot .1 (record { low = omega arith; high = high })
 
 pub split-admitted : (s : List ℕ) (walkRest : ℕ → List Split → Verdict) (rest : List NodeRecord) (at : ℕ) (above : List Split) (a b next : ℕ)
     → a ≤ lotCount s → b ≤ lotCount s

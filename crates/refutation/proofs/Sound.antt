@@ -25,7 +25,7 @@ use Rattle.equality.specs.Opens.{Small}
 use Rattle.equality.proofs.Small.{conditions-small}
 use Rattle.equality.proofs.Right.{false-unmet}
 use Rattle.store.specs.Records.{NodeRecord, splitRecord, groundRecord, metRecord, noRecord, recordsOf}
-use Rattle.refutation.specs.Refutation.{mostSplits, Split, decisionsOf, notFalse, groundFails, nearestOf, nearest, turned, afterGround, named, conditionInRange, walkRecord, walkFrom, check10, walkVerdict, listVerdictFrom, Refutes}
+use Rattle.refutation.specs.Refutation.{mostSplits, Split, decisionsOf, notFalse, groundFails, nearestOf, nearest, turned, afterGround, named, conditionInRange, walkRecord, walkFrom, check10, walkVerdict, listVerdictWith, Refutes}
 
 refuses-passes : {check place : ℕ} → Refuses check place ≡ Passes → ⊥
 refuses-passes e = let z : _≡_ {A = ℕ} 0 1 = cc in omega arith
@@ -129,7 +129,7 @@ module _ {A : Type 0} (decide : (x y : A) → Dec (x ≡ y)) (f : ℕ → A) (s 
 
 -- Theorem 6.
 pub refutation-sound : (s list : List ℕ) → Refutes s list → {A : Type 0} → ((x y : A) → Dec (x ≡ y)) → (f : ℕ → A) → ¬ Meets f s
-unfolding listVerdictFrom
+unfolding listVerdictWith
 refutation-sound s list passes decide f meets =
     let accepted = further-passes s (check10 list ∷ walkVerdict lowestLot s list ∷ []) passes in
     let long = firstRefusal-passes (check10 list) (walkVerdict lowestLot s list ∷ []) (accepted .1) in

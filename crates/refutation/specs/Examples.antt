@@ -8,12 +8,12 @@ use Rattle.sheet.specs.declared.Verdict.{Verdict}
 use Rattle.sheet.specs.declared.Verdict.the-variants.{Passes, Refuses}
 use Rattle.buffers.specs.Bytes.{number, twoBytes}
 use Rattle.sheet.specs.Format.{lowestLot, headAt, signAt, spareAt, firstLotAt, secondLotAt, nextAt, zeroBytes, vacant}
-use Rattle.sheet.specs.Checks.{firstRefusal, lowestRefusal, check1, check2, check3, check4, wellFormed, check5, member, walkChain, walkChains, walked, check17And6, check7, sheetChecksFrom}
+use Rattle.sheet.specs.Checks.{firstRefusal, lowestRefusal, check1, check2, check3, check4, wellFormed, check5, member, walkChain, walkChains, walked, check17And6, check7, sheetChecksWith}
 use Rattle.sheet.specs.Conditions.{chain, recordsFrom, termsFrom, countUp, conditions}
 use Rattle.equality.specs.Meaning.{anyTerm, someTerm}
 use Rattle.equality.specs.Node.{merged, classes, marked, value}
 use Rattle.store.specs.Records.{NodeRecord, splitRecord, groundRecord, metRecord, encode, encodeAll, ofKind, decode, recordsOf}
-use Rattle.refutation.specs.Refutation.{groundFails, nearest, walkFrom, check10, walkVerdict, listVerdict, listVerdictFrom}
+use Rattle.refutation.specs.Refutation.{groundFails, nearest, walkFrom, check10, walkVerdict, listVerdict, listVerdictWith}
 
 -- A: same 1 2; same 2 3; apart 1 3.
 abbrev pub sheetA : List ℕ
@@ -129,5 +129,5 @@ pub verdicts :
     ∷ Refuses 15 1025
     ∷ Refuses 14 1025
     ∷ []
-unfolding number twoBytes headAt signAt spareAt firstLotAt secondLotAt nextAt zeroBytes vacant firstRefusal lowestRefusal check1 check2 check3 check4 wellFormed check5 member walkChain walkChains walked check17And6 check7 sheetChecksFrom chain recordsFrom termsFrom countUp conditions anyTerm someTerm merged classes marked value encode encodeAll ofKind decode recordsOf groundFails nearest walkFrom check10 walkVerdict listVerdictFrom splits
+unfolding number twoBytes headAt signAt spareAt firstLotAt secondLotAt nextAt zeroBytes vacant firstRefusal lowestRefusal check1 check2 check3 check4 wellFormed check5 member walkChain walkChains walked check17And6 check7 sheetChecksWith chain recordsFrom termsFrom countUp conditions anyTerm someTerm merged classes marked value encode encodeAll ofKind decode recordsOf groundFails nearest walkFrom check10 walkVerdict listVerdictWith splits
 verdicts = refl

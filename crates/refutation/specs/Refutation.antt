@@ -9,7 +9,7 @@ use Rattle.sheet.specs.declared.Verdict.{Verdict}
 use Rattle.sheet.specs.declared.Verdict.the-variants.{Passes, Refuses}
 use Rattle.sheet.specs.Format.{lowestLot, lotCount, conditionCount}
 use Rattle.sheet.specs.Conditions.{Term, same, apart, conditions}
-use Rattle.sheet.specs.Checks.{orElse, refusesIf, firstRefusal, sheetChecksFrom, lotInRange}
+use Rattle.sheet.specs.Checks.{orElse, refusesIf, firstRefusal, sheetChecksWith, lotInRange}
 use Rattle.sheet.specs.Answers.{Answer, answered, answerOf}
 use Rattle.equality.specs.Meaning.{someTerm}
 use Rattle.equality.specs.Node.{Decisions, Value, isTrue, isFalse, isOpen, value}
@@ -119,19 +119,19 @@ unfoldable pub walkVerdict : ℕ → List ℕ → List ℕ → Verdict
 walkVerdict lowest s list = walkFrom lowest s (recordsOf list) 1 []
 
 -- The first check of the table that a sheet and a list fail: where lots count from `lowest`, and as they do.
-unfoldable pub listVerdictFrom : ℕ → List ℕ → List ℕ → Verdict
-listVerdictFrom lowest s list = firstRefusal (sheetChecksFrom lowest s ++ check10 list ∷ walkVerdict lowest s list ∷ [])
+unfoldable pub listVerdictWith : ℕ → List ℕ → List ℕ → Verdict
+listVerdictWith lowest s list = firstRefusal (sheetChecksWith lowest s ++ check10 list ∷ walkVerdict lowest s list ∷ [])
 
 abbrev pub listVerdict : List ℕ → List ℕ → Verdict
-listVerdict s list = listVerdictFrom lowestLot s list
+listVerdict s list = listVerdictWith lowestLot s list
 
 -- "A list passes when its walk ends there and no check has refused it.": the list (document 01: grounds) is a refutation of the sheet.
 abbrev pub Refutes : List ℕ → List ℕ → Type 0
 Refutes s list = listVerdict s list ≡ Passes
 
 -- The checker's answer: no value for a list that passes.
-unfoldable pub checkAnswerFrom : ℕ → List ℕ → List ℕ → Answer
-checkAnswerFrom lowest s list = answerOf (listVerdictFrom lowest s list) (answered 0 0 0)
+unfoldable pub checkAnswerWith : ℕ → List ℕ → List ℕ → Answer
+checkAnswerWith lowest s list = answerOf (listVerdictWith lowest s list) (answered 0 0 0)
 
 abbrev pub checkAnswer : List ℕ → List ℕ → Answer
-checkAnswer s list = checkAnswerFrom lowestLot s list
+checkAnswer s list = checkAnswerWith lowestLot s list

@@ -10,13 +10,13 @@ use Rattle.sheet.specs.declared.Verdict.{Verdict}
 use Rattle.sheet.specs.Format.{lowestLot, conditionCount, recordCount, headAt, filledCount}
 use Rattle.sheet.specs.Checks.{firstRefusal, sheetChecks}
 use Rattle.sheet.specs.Conditions.{Term, conditionAt}
-use Rattle.sheet.specs.Answers.{withThird, readAnswer, readAnswerFrom}
+use Rattle.sheet.specs.Answers.{withThird, readAnswer, readAnswerWith}
 use Rattle.sheet.proofs.Further.{further-accepted}
 use Rattle.sheet.proofs.Conditions.{conditions-length, conditions-at, terms-count, withdrawn-empty, empty-withdrawn}
-use Rattle.equality.specs.Evaluator.{check8, groupingVerdict, groupingVerdictFrom, evaluateAnswer, evaluateAnswerFrom}
+use Rattle.equality.specs.Evaluator.{check8, groupingVerdict, groupingVerdictWith, evaluateAnswer, evaluateAnswerWith}
 use Rattle.store.specs.Records.{NodeRecord, splitRecord, groundRecord, metRecord, noRecord, recordsOf}
-use Rattle.refutation.specs.Refutation.{Split, walkRecord, walkFrom, check10, walkVerdict, listVerdictFrom, checkAnswer, checkAnswerFrom}
-use Rattle.outcome.specs.Outcome.{searchOutcome, searchOutcomeFrom}
+use Rattle.refutation.specs.Refutation.{Split, walkRecord, walkFrom, check10, walkVerdict, listVerdictWith, checkAnswer, checkAnswerWith}
+use Rattle.outcome.specs.Outcome.{searchOutcome, searchOutcomeWith}
 use Rattle.repack.specs.Promises.{Alike, ServedAlike}
 
 module _ (s t : List ℕ) (alike : Alike s t) where
@@ -47,7 +47,7 @@ module _ (s t : List ℕ) (alike : Alike s t) where
   alike-further vs ws e = further-accepted s vs (alike .first) ∙ e ∙ sym (further-accepted t ws (alike .second))
 
   alike-read : readAnswer s ≡ withThird (recordCount s) (readAnswer t)
-  unfolding readAnswerFrom
+  unfolding readAnswerWith
   alike-read = rw (alike .first, alike .second, alike .lots, alike-conditions)
 
   alike-filled : filledCount s ≡ filledCount t
@@ -56,16 +56,16 @@ module _ (s t : List ℕ) (alike : Alike s t) where
   -- ---- evaluator and search
 
   alike-grouping : (grouping : List ℕ) → groupingVerdict s grouping ≡ groupingVerdict t grouping
-  unfolding groupingVerdictFrom check8
+  unfolding groupingVerdictWith check8
   alike-grouping grouping = alike-further (check8 s grouping ∷ []) (check8 t grouping ∷ []) (rw (alike .lots))
 
   alike-evaluate : (grouping : List ℕ) → evaluateAnswer s grouping ≡ evaluateAnswer t grouping
-  unfolding evaluateAnswerFrom
+  unfolding evaluateAnswerWith
   alike-evaluate grouping = rw (alike-grouping grouping, alike .lists)
 
   -- The answer and both buffers.
   alike-search : (grouping store : List ℕ) → searchOutcome s grouping store ≡ searchOutcome t grouping store
-  unfolding searchOutcomeFrom
+  unfolding searchOutcomeWith
   alike-search grouping store = rw (alike-grouping grouping, alike .lots, alike .lists)
 
   -- ---- refutation checker
@@ -83,7 +83,7 @@ module _ (s t : List ℕ) (alike : Alike s t) where
       go noRecord at above e = refl
 
   alike-check : (list : List ℕ) → checkAnswer s list ≡ checkAnswer t list
-  unfolding checkAnswerFrom listVerdictFrom walkVerdict
+  unfolding checkAnswerWith listVerdictWith walkVerdict
   alike-check list =
       rw (alike-further (check10 list ∷ walkVerdict lowestLot s list ∷ []) (check10 list ∷ walkVerdict lowestLot t list ∷ [])
       (ap (λ (w : ℕ → List Split → Verdict). firstRefusal (check10 list ∷ w 1 [] ∷ [])) (alike-walk (recordsOf list))))

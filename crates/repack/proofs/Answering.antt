@@ -13,7 +13,7 @@ use Rattle.sheet.proofs.Further.{further-passes}
 use Rattle.sheet.proofs.Lengths.{sheet-first, too-short, long-enough, then-numbered}
 use Rattle.sheet.proofs.Numbered.{Numbered}
 use Rattle.writer.specs.Answers.{outputAfter}
-use Rattle.repack.specs.Repack.{repacked, repackedLength, check16, repackVerdict, repackVerdictFrom, repackAnswer, repackAnswerFrom, repackOut, repackOutFrom}
+use Rattle.repack.specs.Repack.{repacked, repackedLength, check16, repackVerdict, repackVerdictWith, repackAnswer, repackAnswerWith, repackOut, repackOutWith}
 use Rattle.repack.proofs.Repacked.{repacked-length}
 
 -- What a verdict has the service answer of a sheet.
@@ -25,38 +25,38 @@ module _ (s out : List ℕ) where
 
   -- A sheet that is refused,
   pub sheet-refused : (check place : ℕ) → sheetVerdict s ≡ Refuses check place → repackVerdict s out ≡ Refuses check place
-  unfolding repackVerdictFrom check16
+  unfolding repackVerdictWith check16
   sheet-refused = sheet-first s out 16 (repackedLength s)
 
   -- an output that is too short,
   pub output-short : Accepted s → length out < repackedLength s → repackVerdict s out ≡ Refuses 16 (repackedLength s)
-  unfolding repackVerdictFrom check16
+  unfolding repackVerdictWith check16
   output-short = too-short s out 16 (repackedLength s)
 
   -- or none of the eight.
   pub all-pass : Accepted s → repackedLength s ≤ length out → repackVerdict s out ≡ Passes
-  unfolding repackVerdictFrom check16
+  unfolding repackVerdictWith check16
   all-pass = long-enough s out 16 (repackedLength s)
 
   -- Where none refuses, the sheet is accepted.
   passes-accepted : repackVerdict s out ≡ Passes → Accepted s
-  unfolding repackVerdictFrom
+  unfolding repackVerdictWith
   passes-accepted e = further-passes s (check16 s out ∷ []) e .0
 
   -- A refusal's number is at least 1 and not 9.
   pub repack-numbered : Numbered (repackVerdict s out)
-  unfolding repackVerdictFrom check16
+  unfolding repackVerdictWith check16
   repack-numbered = then-numbered s out 16 (repackedLength s) (omega arith, λ e. omega arith)
 
   -- ---- the answer, and the output
 
   -- By the verdict,
   pub answer-by : (v : Verdict) → repackVerdict s out ≡ v → repackAnswer s out ≡ answerBy s v
-  unfolding repackAnswerFrom
+  unfolding repackAnswerWith
   answer-by v e = ap (answerBy s) e
 
   pub output-by : (v : Verdict) → repackVerdict s out ≡ v → repackOut s out ≡ outputAfter (answerBy s v) (repacked s) out
-  unfolding repackOutFrom
+  unfolding repackOutWith
   output-by v e = ap (λ (a : Answer). outputAfter a (repacked s) out) (answer-by v e)
 
   -- so that where a length is answered the sheet is accepted, and the first bytes of the output, so many, are the packed sheet.
@@ -65,7 +65,7 @@ module _ (s out : List ℕ) where
     pub first : take n (repackOut s out) ≡ repacked s
 
   pub fitted : (n second third : ℕ) → answered n second third ≡ repackAnswer s out → Fitted n
-  unfolding repackAnswerFrom
+  unfolding repackAnswerWith
   fitted n second third e = go (repackVerdict s out) refl e
     where
       go : (v : Verdict) → repackVerdict s out ≡ v → answered n second third ≡ answerBy s v → Fitted n

@@ -5,11 +5,11 @@ use mathlib.Core.Path.{_≡_, refl}
 use lib.ListN.{replicate}
 use Rattle.buffers.specs.Bytes.{number, twoBytes}
 use Rattle.sheet.specs.Format.{headAt, signAt, spareAt, firstLotAt, secondLotAt, nextAt, zeroBytes, vacant}
-use Rattle.sheet.specs.Checks.{firstRefusal, lowestRefusal, check1, check2, check3, check4, wellFormed, check5, member, walkChain, walkChains, walked, check17And6, check7, sheetChecksFrom}
+use Rattle.sheet.specs.Checks.{firstRefusal, lowestRefusal, check1, check2, check3, check4, wellFormed, check5, member, walkChain, walkChains, walked, check17And6, check7, sheetChecksWith}
 use Rattle.sheet.specs.Conditions.{chain, recordsFrom, termsFrom, countUp, conditions}
 use Rattle.sheet.specs.Answers.{Answer, refused, answered}
 use Rattle.canonical.specs.Canonical.{termRecord, chainRecords, sheetRecords, headsFrom, canonical}
-use Rattle.repack.specs.Repack.{check16, repackVerdictFrom, repackAnswer, repackAnswerFrom, repackOut, repackOutFrom}
+use Rattle.repack.specs.Repack.{check16, repackVerdictWith, repackAnswer, repackAnswerWith, repackOut, repackOutWith}
 
 -- Document 01's sheet C, its three records in another order,
 abbrev pub shuffledC : List ℕ
@@ -127,5 +127,5 @@ pub repackings :
     ∷ leaves (refused 1 0) (room 5)
     ∷ leaves (refused 7 1) []
     ∷ []
-unfolding number twoBytes headAt signAt spareAt firstLotAt secondLotAt nextAt zeroBytes vacant firstRefusal lowestRefusal check1 check2 check3 check4 wellFormed check5 member walkChain walkChains walked check17And6 check7 sheetChecksFrom chain recordsFrom termsFrom countUp conditions termRecord chainRecords sheetRecords headsFrom canonical flatten check16 repackVerdictFrom repackAnswerFrom repackOutFrom
+unfolding number twoBytes headAt signAt spareAt firstLotAt secondLotAt nextAt zeroBytes vacant firstRefusal lowestRefusal check1 check2 check3 check4 wellFormed check5 member walkChain walkChains walked check17And6 check7 sheetChecksWith chain recordsFrom termsFrom countUp conditions termRecord chainRecords sheetRecords headsFrom canonical flatten check16 repackVerdictWith repackAnswerWith repackOutWith
 repackings = refl

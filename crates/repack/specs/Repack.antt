@@ -5,7 +5,7 @@ use lib.Dec.{ltb}
 use lib.ListN.{length}
 use Rattle.sheet.specs.declared.Verdict.{Verdict}
 use Rattle.sheet.specs.Format.{lowestLot, lotCount}
-use Rattle.sheet.specs.Checks.{refusesIf, firstRefusal, sheetChecksFrom}
+use Rattle.sheet.specs.Checks.{refusesIf, firstRefusal, sheetChecksWith}
 use Rattle.sheet.specs.Conditions.{conditions}
 use Rattle.sheet.specs.Answers.{Answer, answered, answerOf}
 use Rattle.canonical.specs.Canonical.{canonical, canonicalLength}
@@ -27,23 +27,23 @@ check16 s out = refusesIf (ltb (length out) (repackedLength s)) 16 (repackedLeng
 
 module _ (lowest : ℕ) (s out : List ℕ) where
   -- Where lots count from `lowest`: the first check that fails;
-  unfoldable pub repackVerdictFrom : Verdict
-  repackVerdictFrom = firstRefusal (sheetChecksFrom lowest s ++ check16 s out ∷ [])
+  unfoldable pub repackVerdictWith : Verdict
+  repackVerdictWith = firstRefusal (sheetChecksWith lowest s ++ check16 s out ∷ [])
 
   -- "each answers the length it wrote";
-  unfoldable pub repackAnswerFrom : Answer
-  repackAnswerFrom = answerOf repackVerdictFrom (answered (repackedLength s) 0 0)
+  unfoldable pub repackAnswerWith : Answer
+  repackAnswerWith = answerOf repackVerdictWith (answered (repackedLength s) 0 0)
 
   -- "a writer that repacks an accepted sheet into another buffer": the buffer afterwards.
-  unfoldable pub repackOutFrom : List ℕ
-  repackOutFrom = outputAfter repackAnswerFrom (repacked s) out
+  unfoldable pub repackOutWith : List ℕ
+  repackOutWith = outputAfter repackAnswerWith (repacked s) out
 
 -- As lots do count.
 abbrev pub repackVerdict : List ℕ → List ℕ → Verdict
-repackVerdict s out = repackVerdictFrom lowestLot s out
+repackVerdict s out = repackVerdictWith lowestLot s out
 
 abbrev pub repackAnswer : List ℕ → List ℕ → Answer
-repackAnswer s out = repackAnswerFrom lowestLot s out
+repackAnswer s out = repackAnswerWith lowestLot s out
 
 abbrev pub repackOut : List ℕ → List ℕ → List ℕ
-repackOut s out = repackOutFrom lowestLot s out
+repackOut s out = repackOutWith lowestLot s out

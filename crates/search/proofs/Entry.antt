@@ -9,7 +9,7 @@ use Rattle.sheet.specs.Conditions.{conditions}
 use Rattle.equality.specs.Search.{searchTree}
 use Rattle.equality.specs.Evaluator.{groupingVerdict}
 use Rattle.store.specs.Records.{capacity}
-use Rattle.outcome.specs.Outcome.{resultOf, searchOutcome, searchOutcomeFrom}
+use Rattle.outcome.specs.Outcome.{resultOf, searchOutcome, searchOutcomeWith}
 use Rattle.search.specs.declared.SearchAnswer.{SearchAnswer}
 use Rattle.search.specs.declared.SearchAnswer.the-variants.{Refused}
 use Rattle.search.specs.Answers.{searchAnswer}
@@ -46,7 +46,7 @@ module _ (s grouping store : List ℕ) where
       × (CountBounded (searchAnswer r) s)))))))))))))
 
   pub ensured : {v : Verdict} → groupingVerdict s grouping ≡ v → (grouping′ store′ : List ℕ) (r : SearchAnswer) → EndsBy v grouping′ store′ r → Ensured grouping′ store′ r
-  unfolding searchCase searchOutcomeFrom
+  unfolding searchCase searchOutcomeWith
   ensured {v} verdict grouping′ store′ r ends = by (subst (λ (w : Verdict). EndsBy w grouping′ store′ r) (sym verdict) ends)
     where
       by : EndsBy (groupingVerdict s grouping) grouping′ store′ r → Ensured grouping′ store′ r

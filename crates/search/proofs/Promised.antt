@@ -21,15 +21,15 @@ use Rattle.sheet.proofs.Further.{further-passes}
 use Rattle.sheet.proofs.Numbered.{refusal-number}
 use Rattle.equality.specs.Meaning.{Meets}
 use Rattle.equality.specs.Search.{searchTree, isMet, nodeCount}
-use Rattle.equality.specs.Evaluator.{check8, groupingVerdict, groupingVerdictFrom}
+use Rattle.equality.specs.Evaluator.{check8, groupingVerdict, groupingVerdictWith}
 use Rattle.equality.proofs.Checked.{grouping-numbered}
 use Rattle.equality.proofs.Sheets.{sheet-met, sheet-cannot, sheet-branching}
 use Rattle.outcome.specs.Nodes.{records}
 use Rattle.store.specs.Records.{encodeAll, recordLength, capacity}
-use Rattle.outcome.specs.Outcome.{Result, refusedResult, fullResult, metResult, cannotResult, metOrCannot, fullOr, resultOf, resultAnswer, groupingAfter, storeAfter, check9, searchVerdict, searchOutcome, searchOutcomeFrom}
+use Rattle.outcome.specs.Outcome.{Result, refusedResult, fullResult, metResult, cannotResult, metOrCannot, fullOr, resultOf, resultAnswer, groupingAfter, storeAfter, check9, searchVerdict, searchOutcome, searchOutcomeWith}
 use Rattle.outcome.proofs.Fitting.{bytes-count}
 use Rattle.outcome.proofs.Grouping as left
-use Rattle.refutation.specs.Refutation.{Refutes, listVerdict, checkAnswer, checkAnswerFrom}
+use Rattle.refutation.specs.Refutation.{Refutes, listVerdict, checkAnswer, checkAnswerWith}
 use Rattle.outcome.proofs.Own.{own-grounds-pass}
 use Rattle.search.specs.declared.SearchAnswer.{SearchAnswer}
 use Rattle.search.specs.Answers.{searchAnswer}
@@ -62,17 +62,17 @@ ends s grouping store = by-verdict (groupingVerdict s grouping) refl
 
 -- Where no check before the search refuses, the sheet is accepted.
 accepted : (s grouping : List ℕ) → groupingVerdict s grouping ≡ Passes → Accepted s
-unfolding groupingVerdictFrom
+unfolding groupingVerdictWith
 accepted s grouping v = further-passes s (check8 s grouping ∷ []) v .0
 
 -- A refutation is a list that the checker answers by passing it,
 passing-answer : (s list : List ℕ) → Refutes s list → checkAnswer s list ≡ answered 0 0 0
-unfolding checkAnswerFrom
+unfolding checkAnswerWith
 passing-answer s list passes = ap (λ (v : Verdict). answerOf v (answered 0 0 0)) passes
 
 -- and what it passes is one.
 pub answer-passing : (s list : List ℕ) → checkAnswer s list ≡ answered 0 0 0 → Refutes s list
-unfolding checkAnswerFrom
+unfolding checkAnswerWith
 answer-passing s list e = go (listVerdict s list) e
   where
     go : (v : Verdict) → answerOf v (answered 0 0 0) ≡ answered 0 0 0 → v ≡ Passes
@@ -88,7 +88,7 @@ case-answer (cannotResult tree) = refl
 
 -- The case gives document 01's number and values.
 pub answer-of : (s grouping store : List ℕ) (r : SearchAnswer) → r ≡ searchCase s grouping store → searchAnswer r ≡ searchOutcome s grouping store .answer
-unfolding searchCase searchOutcomeFrom
+unfolding searchCase searchOutcomeWith
 answer-of s grouping store r e = ap searchAnswer e ∙ case-answer (resultOf (groupingVerdict s grouping) (capacity store) (searchTree (conditions s)))
 
 -- A refusal is no answer with values.
@@ -113,7 +113,7 @@ module _ (s grouping store : List ℕ) where
 module _ (s grouping store : List ℕ) (a : Answer) (e : a ≡ searchOutcome s grouping store .answer) where
   -- What holds of every result, with what is known where it is the search's, holds of the search.
   by-ends : (P : Answer → Type 0) → ((result : Result) → Ends s grouping store result → P (resultAnswer result)) → P a
-  unfolding searchOutcomeFrom
+  unfolding searchOutcomeWith
   by-ends P h = subst P (sym e) (h _ (ends s grouping store))
 
   -- The number of a check that refuses before the search is not 9.
@@ -171,7 +171,7 @@ module _ (s grouping store : List ℕ) (a : Answer) (e : a ≡ searchOutcome s g
       go result (ends-cannot v fits m) = (λ e. absurd (omega (arith, e)), λ some. absurd (false≢true (sym m ∙ sheet-met s (accepted s grouping v) .1 some)))
 
   pub met-grouping : (grouping′ : List ℕ) → grouping′ ≡ searchOutcome s grouping store .grouping → MetGrouping a s grouping′
-  unfolding searchOutcomeFrom
+  unfolding searchOutcomeWith
   met-grouping grouping′ q = rw (e, q) (go _ (ends s grouping store))
     where
       go : (result : Result) → Ends s grouping store result → MetGrouping (resultAnswer result) s (groupingAfter (lotCount s) result grouping)
@@ -181,7 +181,7 @@ module _ (s grouping store : List ℕ) (a : Answer) (e : a ≡ searchOutcome s g
       go result (ends-cannot v fits m) = λ e. absurd (omega (arith, e))
 
   pub met-zero : (grouping′ : List ℕ) → grouping′ ≡ searchOutcome s grouping store .grouping → MetZero a s grouping′
-  unfolding searchOutcomeFrom
+  unfolding searchOutcomeWith
   met-zero grouping′ q = rw (e, q) (go _ (ends s grouping store))
     where
       go : (result : Result) → Ends s grouping store result → MetZero (resultAnswer result) s (groupingAfter (lotCount s) result grouping)
@@ -221,7 +221,7 @@ module _ (s grouping store : List ℕ) (a : Answer) (e : a ≡ searchOutcome s g
       go result (ends-cannot v fits m) q = sheet-cannot s (accepted s grouping v) m decide f
 
   pub cannot-refutes : (store′ : List ℕ) → store′ ≡ searchOutcome s grouping store .store → CannotRefutes a s store′
-  unfolding searchOutcomeFrom
+  unfolding searchOutcomeWith
   cannot-refutes store′ q = rw (e, q) (go _ (ends s grouping store))
     where
       go : (result : Result) → Ends s grouping store result → CannotRefutes (resultAnswer result) s (storeAfter result store)

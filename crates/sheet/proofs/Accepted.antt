@@ -11,7 +11,7 @@ use borrow.Author.Tests.{eqb-true, leb-true, le-leb, ltb-false, not-false}
 use Rattle.sheet.specs.declared.Header.{Header}
 use Rattle.sheet.specs.declared.Verdict.the-variants.{Passes}
 use Rattle.sheet.specs.Format.{lowestLot, headerLength, lotCount, conditionCount, recordCount, headAt, sameSign, apartSign, signAt, spareAt, firstLotAt, secondLotAt, nextAt, vacant}
-use Rattle.sheet.specs.Checks.{orElse, firstRefusal, check2, check3, check4, check5, check17And6, check7, lotInRange, wellFormed, Walk, reached, twice, intoVacant, member, walked, chainsVerdict, reachedBy, headerChecks, sheetChecksFrom, sheetVerdict, sheetVerdictFrom, Accepted}
+use Rattle.sheet.specs.Checks.{orElse, firstRefusal, check2, check3, check4, check5, check17And6, check7, lotInRange, wellFormed, Walk, reached, twice, intoVacant, member, walked, chainsVerdict, reachedBy, headerChecks, sheetChecksWith, sheetVerdict, sheetVerdictWith, Accepted}
 use Rattle.sheet.specs.Conditions.{InLots}
 use Rattle.sheet.specs.Inner.{headerAt, HasHeader, HasRecord}
 use Rattle.sheet.proofs.Verdicts.{orElse-end, orElse-assoc, orElse-passes, firstRefusal-passes, refusesIf-passes, lowest-passes}
@@ -38,7 +38,7 @@ pub record Sound (s : List ℕ) : Type 0 where
 -- The header's, then one after another.
 pub in-order : (s : List ℕ)
     → sheetVerdict s ≡ orElse (firstRefusal (headerChecks s)) (orElse (check4 s) (orElse (check5 lowestLot s) (orElse (check17And6 s) (check7 s))))
-unfolding sheetVerdictFrom sheetChecksFrom firstRefusal
+unfolding sheetVerdictWith sheetChecksWith firstRefusal
 in-order s = simp (orElse-end, orElse-assoc)
 
 -- ---- bytes with a header

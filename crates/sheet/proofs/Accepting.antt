@@ -9,7 +9,7 @@ use lib.Dec.{eqb}
 use borrow.Author.Tests.{le-ltb, le-leb, eq-eqb}
 use Rattle.sheet.specs.declared.Verdict.the-variants.{Passes}
 use Rattle.sheet.specs.Format.{lowestLot, sameSign, apartSign, vacant}
-use Rattle.sheet.specs.Checks.{check1, check2, check3, check4, check5, check17And6, check7, firstRefusal, wellFormed, sheetChecksFrom, sheetVerdictFrom, Accepted}
+use Rattle.sheet.specs.Checks.{check1, check2, check3, check4, check5, check17And6, check7, firstRefusal, wellFormed, sheetChecksWith, sheetVerdictWith, Accepted}
 use Rattle.sheet.proofs.Verdicts.{passes-orElse, passes-refusesIf, passes-lowest}
 use Rattle.sheet.proofs.Accepted.{lot-in, SoundRecord, Sound, header-whole}
 
@@ -74,5 +74,5 @@ module _ (s : List ℕ) (h : Sound s) where
 
   -- So the sheet is accepted.
   pub accepted : Accepted s
-  unfolding sheetVerdictFrom sheetChecksFrom firstRefusal
+  unfolding sheetVerdictWith sheetChecksWith firstRefusal
   accepted = rw (one-passes, two-passes, three-passes, four-passes, five-passes, six-passes, seven-passes)

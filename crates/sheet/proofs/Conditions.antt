@@ -1,4 +1,4 @@
--- The conditions as a list; how many terms they have, and that every term names lots of the sheet.
+-- The conditions as a list; how many terms they have, and that every term names lots that it may.
 use Prim.Native.Nat.{ℕ, zero, suc, _+_, _≤_, _<_}
 use mathlib.Core.Bool.{Bool, true, false, cond}
 use mathlib.Core.List.{List, [], _∷_, map, flatten, map-append}
@@ -101,7 +101,7 @@ module _ (s : List ℕ) (ok : Accepted s) (P : Term → Type 0) (each : (r : ℕ
   conditions-each =
       all-along (conditionAt s) (All P) (conditionCount s) 1 (λ c low high. terms-each (headAt s c) (head-on s ok c low (omega arith)))
 
--- So all terms name lots of the sheet.
+-- So all terms name lots that they may.
 module _ (s : List ℕ) (ok : Accepted s) where
   pub term-in : (r : ℕ) → 1 ≤ r → OnChain s r → TermIn (lotCount s) (termAt s r)
   term-in r low on = let fields = on-sound s ok r low on in both-lots (InLots (lotCount s)) s r (fields .first) (fields .second)

@@ -4,7 +4,7 @@ use mathlib.Core.List.{List, [], _∷_, _++_}
 use mathlib.Core.Path.{_≡_, refl, sym, ap, _∙_}
 use Rattle.sheet.specs.declared.Verdict.{Verdict}
 use Rattle.sheet.specs.declared.Verdict.the-variants.{Passes}
-use Rattle.sheet.specs.Checks.{orElse, firstRefusal, sheetChecks, sheetVerdict, sheetVerdictFrom, Accepted}
+use Rattle.sheet.specs.Checks.{orElse, firstRefusal, sheetChecks, sheetVerdict, sheetVerdictWith, Accepted}
 use Rattle.sheet.proofs.Verdicts.{orElse-assoc, orElse-passes}
 
 first-append : (us vs : List Verdict) → firstRefusal (us ++ vs) ≡ orElse (firstRefusal us) (firstRefusal vs)
@@ -15,7 +15,7 @@ first-append (u ∷ us) vs = ap (orElse u) (first-append us vs) ∙ sym (orElse-
 module _ (s : List ℕ) (vs : List Verdict) where
   -- The sheet's verdict comes first,
   pub further : firstRefusal (sheetChecks s ++ vs) ≡ orElse (sheetVerdict s) (firstRefusal vs)
-  unfolding sheetVerdictFrom
+  unfolding sheetVerdictWith
   further = first-append (sheetChecks s) vs
 
   -- so that where all pass the sheet is accepted and the further checks pass;

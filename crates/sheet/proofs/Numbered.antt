@@ -10,7 +10,7 @@ use lib.ListN.{length}
 use Rattle.sheet.specs.declared.Verdict.{Verdict}
 use Rattle.sheet.specs.declared.Verdict.the-variants.{Passes, Refuses}
 use Rattle.sheet.specs.Format.{lowestLot, mostLots, mostConditions, mostRecords, headerLength, lotCount, conditionCount, recordCount, sheetLength, headAt, vacant}
-use Rattle.sheet.specs.Checks.{wellFormed, member, reachedBy, orElse, firstRefusal, refusesIf, lowestRefusal, check1, check2, check3, check4, check5, check17And6, check7, Walk, reached, twice, intoVacant, chainsVerdict, walked, sheetChecksFrom, sheetVerdict, sheetVerdictFrom}
+use Rattle.sheet.specs.Checks.{wellFormed, member, reachedBy, orElse, firstRefusal, refusesIf, lowestRefusal, check1, check2, check3, check4, check5, check17And6, check7, Walk, reached, twice, intoVacant, chainsVerdict, walked, sheetChecksWith, sheetVerdict, sheetVerdictWith}
 
 -- A number that such a check has.
 abbrev pub Number : ℕ → Type 0
@@ -79,7 +79,7 @@ module _ (s : List ℕ) where
   seven = lowest 7 (omega arith, λ e. omega arith) (λ r. not (vacant s r || member r (reachedBy (walked s)))) (recordCount s) 1
 
   pub sheet-numbered : Numbered (sheetVerdict s)
-  unfolding sheetVerdictFrom sheetChecksFrom firstRefusal
+  unfolding sheetVerdictWith sheetChecksWith firstRefusal
   sheet-numbered =
       either (check1 s) _ one
       (either (check2 s) _ two

@@ -8,7 +8,7 @@ use Rattle.sheet.specs.declared.Verdict.the-variants.{Passes, Refuses}
 use Rattle.sheet.specs.declared.Reading.{Reading}
 use Rattle.sheet.specs.Format.{lotCount, conditionCount, recordCount}
 use Rattle.sheet.specs.Checks.{sheetVerdict, Accepted}
-use Rattle.sheet.specs.Answers.{refused, answered, answerOf, readAnswer, readAnswerFrom, readingAnswer}
+use Rattle.sheet.specs.Answers.{refused, answered, answerOf, readAnswer, readAnswerWith, readingAnswer}
 
 -- The sheet is accepted, with these counts.
 pub record ReadAs (s : List ℕ) (n m k : ℕ) : Type 0 where
@@ -20,7 +20,7 @@ pub record ReadAs (s : List ℕ) (n m k : ℕ) : Type 0 where
 module _ (s : List ℕ) where
   -- A reading that accepts says that the sheet is accepted, and gives its counts;
   pub read-accepts : (n m k : ℕ) → readingAnswer (Reading.Accepted n m k) ≡ readAnswer s → ReadAs s n m k
-  unfolding readAnswerFrom
+  unfolding readAnswerWith
   read-accepts n m k e = go (sheetVerdict s) refl e
     where
       go : (v : Verdict) → sheetVerdict s ≡ v → answered n m k ≡ answerOf v (answered (lotCount s) (conditionCount s) (recordCount s)) → ReadAs s n m k
@@ -29,7 +29,7 @@ module _ (s : List ℕ) where
 
   -- one that refuses gives the first check that fails.
   pub read-refuses : (check place : ℕ) → readingAnswer (Reading.Refused check place) ≡ readAnswer s → sheetVerdict s ≡ Refuses check place
-  unfolding readAnswerFrom
+  unfolding readAnswerWith
   read-refuses check place e = go (sheetVerdict s) refl e
     where
       go : (v : Verdict) → sheetVerdict s ≡ v → refused check place ≡ answerOf v (answered (lotCount s) (conditionCount s) (recordCount s))

@@ -6,7 +6,7 @@ use Rattle.sheet.specs.declared.Verdict.the-variants.{Passes, Refuses}
 use Rattle.sheet.specs.declared.Reading.{Reading}
 use Rattle.sheet.specs.declared.Reading.the-variants.{Accepted, Refused}
 use Rattle.sheet.specs.Format.{lowestLot, lotCount, conditionCount, recordCount}
-use Rattle.sheet.specs.Checks.{sheetVerdictFrom}
+use Rattle.sheet.specs.Checks.{sheetVerdictWith}
 
 -- A service refuses, with document 01's number of the check and its place; or it answers, with up to three values, the others 0. A service's contract
 -- equates the answer of the case that it returns, so that refusing and answering are told apart, and not by their numbers alone.
@@ -25,11 +25,11 @@ answerOf Passes answer = answer
 answerOf (Refuses check place) answer = refused check place
 
 -- "the reader then answers n, m and k": where lots count from `lowest`, and as they do.
-unfoldable pub readAnswerFrom : ℕ → List ℕ → Answer
-readAnswerFrom lowest s = answerOf (sheetVerdictFrom lowest s) (answered (lotCount s) (conditionCount s) (recordCount s))
+unfoldable pub readAnswerWith : ℕ → List ℕ → Answer
+readAnswerWith lowest s = answerOf (sheetVerdictWith lowest s) (answered (lotCount s) (conditionCount s) (recordCount s))
 
 abbrev pub readAnswer : List ℕ → Answer
-readAnswer s = readAnswerFrom lowestLot s
+readAnswer s = readAnswerWith lowestLot s
 
 -- The reader's cases.
 abbrev pub readingAnswer : Reading → Answer

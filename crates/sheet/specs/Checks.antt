@@ -55,7 +55,7 @@ check3 s = refusesIf (not (eqb (length s) (sheetLength (conditionCount s) (recor
 unfoldable pub check4 : List ℕ → Verdict
 check4 s = lowestRefusal 4 (λ c. ltb (recordCount s) (headAt s c)) (conditionCount s) 1
 
--- A lot that a term may name, of n lots, where `lowest` is the lowest that it may.
+-- A lot that a term may name: from `lowest` on, and at most n. With lot 0 for the lowest, lot 0 or one of the n lots.
 abbrev pub lotInRange : ℕ → ℕ → ℕ → Bool
 lotInRange lowest n lot = leb lowest lot && leb lot n
 
@@ -136,17 +136,17 @@ abbrev pub headerChecks : List ℕ → List Verdict
 headerChecks s = check1 s ∷ check2 s ∷ check3 s ∷ []
 
 -- "the table's checks on its own bytes, here 1 to 7", with 17: where lots count from `lowest`, and as they do.
-unfoldable pub sheetChecksFrom : ℕ → List ℕ → List Verdict
-sheetChecksFrom lowest s = headerChecks s ++ check4 s ∷ check5 lowest s ∷ check17And6 s ∷ check7 s ∷ []
+unfoldable pub sheetChecksWith : ℕ → List ℕ → List Verdict
+sheetChecksWith lowest s = headerChecks s ++ check4 s ∷ check5 lowest s ∷ check17And6 s ∷ check7 s ∷ []
 
 abbrev pub sheetChecks : List ℕ → List Verdict
-sheetChecks s = sheetChecksFrom lowestLot s
+sheetChecks s = sheetChecksWith lowestLot s
 
-unfoldable pub sheetVerdictFrom : ℕ → List ℕ → Verdict
-sheetVerdictFrom lowest s = firstRefusal (sheetChecksFrom lowest s)
+unfoldable pub sheetVerdictWith : ℕ → List ℕ → Verdict
+sheetVerdictWith lowest s = firstRefusal (sheetChecksWith lowest s)
 
 abbrev pub sheetVerdict : List ℕ → Verdict
-sheetVerdict s = sheetVerdictFrom lowestLot s
+sheetVerdict s = sheetVerdictWith lowestLot s
 
 -- "A sheet is accepted when none of the table's checks on its own bytes, here 1 to 7, refuses it"; with document 02 they are 1 to 7 and 17.
 abbrev pub Accepted : List ℕ → Type 0

@@ -27,7 +27,7 @@ abbrev pub secondLot : Term → ℕ
 secondLot (same a b) = b
 secondLot (apart a b) = b
 
--- A lot that a term may name, of n lots.
+-- "Lot 0 .. may appear in terms" (document 02): a lot that a term may name is lot 0 or one of the n lots.
 pub record InLots (n lot : ℕ) : Type 0 where
   pub low : lowestLot ≤ lot
   pub high : lot ≤ n

@@ -1,4 +1,4 @@
--- Where things stand in a sheet's bytes (document 01, "The sheet"; document 02, "Striking a condition").
+-- Where things stand in a sheet's bytes (document 01, "The sheet"; document 02, "Striking a condition", "The house's hold").
 use Prim.Native.Nat.{ℕ, zero, suc, _+_, _*_, _-_}
 use mathlib.Core.Bool.{Bool, true, cond, _&&_}
 use mathlib.Core.List.{List, [], _∷_}

@@ -17,6 +17,9 @@ pub struct Condition(pub u16);
 
 pub struct Record(pub u16);
 
+// Lots 0 to 128: what is kept for each lot that there can be has so many entries.
+pub const LOT_ENTRIES: usize = 129;
+
 // The signs of a term.
 pub const SAME: u8 = 1;
 

@@ -14,7 +14,7 @@ use Rattle.sheet.specs.Checks.{Accepted, orElse, firstRefusal, sheetVerdict}
 use Rattle.sheet.proofs.Further.{further}
 use Rattle.sheet.proofs.Accepted.{sound}
 use Rattle.equality.specs.Search.{Tree, nodeCount, searchTree, metDecisions, groupingBytes}
-use Rattle.equality.specs.Evaluator.{check8, groupingVerdict, groupingVerdictFrom}
+use Rattle.equality.specs.Evaluator.{check8, groupingVerdict, groupingVerdictWith}
 use Rattle.outcome.specs.Nodes.{records}
 use Rattle.store.specs.Records.{encodeAll, mostNodes, capacity}
 use Rattle.buffers.specs.Written.{written}
@@ -22,7 +22,7 @@ use Rattle.outcome.specs.Outcome.{resultOf, metResult, cannotResult}
 use Rattle.outcome.proofs.Fitting.{records-count, search-fits}
 use Rattle.store.proofs.Codec.{records-first}
 use Rattle.outcome.proofs.Grouping.{grouping-length}
-use Rattle.text.specs.Program.{mostInput, printed, printedFrom, programCapacity, resultText}
+use Rattle.text.specs.Program.{mostInput, printed, printedWith, programCapacity, resultText}
 use Rattle.text.specs.Code.{firstRecords, metText, cannotText}
 
 module _ (s : List ℕ) (ok : Accepted s) (few : nodeCount (searchTree (conditions s)) ≤ mostNodes) (store : List ℕ) where
@@ -56,7 +56,7 @@ no-refusal s grouping ok room = rw (le-ltb (length grouping) (lotCount s) (omega
 
 -- A grouping for every lot refuses no sheet:
 same-verdict : (s grouping : List ℕ) → mostLots ≤ length grouping → groupingVerdict s grouping ≡ sheetVerdict s
-unfolding groupingVerdictFrom
+unfolding groupingVerdictWith
 same-verdict s grouping room = further s (check8 s grouping ∷ []) ∙ passed (sheetVerdict s) refl
   where
     passed : (v : Verdict) → sheetVerdict s ≡ v → orElse (sheetVerdict s) (firstRefusal (check8 s grouping ∷ [])) ≡ sheetVerdict s
@@ -70,11 +70,11 @@ program-result s grouping store tree room size = ap₂ (λ (v : Verdict) (c : �
 
 -- The program takes no more of an input than a sheet can need,
 pub printed-taken : (input : List ℕ) → printed (take mostInput input) ≡ printed input
-unfolding printedFrom
+unfolding printedWith
 printed-taken input = rw (take-take mostInput mostInput input (omega arith))
 
 -- and the whole of one that is no longer.
 pub printed-short : (s : List ℕ) → length s ≤ mostInput
     → printed s ≡ resultText s (resultOf (sheetVerdict s) programCapacity (searchTree (conditions s)))
-unfolding printedFrom
+unfolding printedWith
 printed-short s short = rw (take-all mostInput s short)

@@ -10,7 +10,7 @@ use Rattle.sheet.specs.Checks.{sheetVerdict}
 use Rattle.sheet.specs.Answers.{refused, answered}
 use Rattle.sheet.proofs.Accepted.{header-whole, sound}
 use Rattle.equality.specs.Search.{searchTree}
-use Rattle.outcome.specs.Outcome.{Result, Outcome, metResult, cannotResult, resultOf, outcomeOf, searchOutcome, searchOutcomeFrom}
+use Rattle.outcome.specs.Outcome.{Result, Outcome, metResult, cannotResult, resultOf, outcomeOf, searchOutcome, searchOutcomeWith}
 use Rattle.text.specs.Program.{programCapacity, refusedLine, resultText, printed}
 use Rattle.text.specs.Code.{Printable, Lent, metText, cannotText, textRoom}
 use Rattle.text.proofs.Room.{met-most, cannot-most}
@@ -26,7 +26,7 @@ module _ {s grouping store : List ℕ} (lent : Lent s grouping store) where
   outcome = searchOutcome s grouping store
 
   outcome-says : outcome ≡ outcomeOf (lotCount s) result grouping store
-  unfolding searchOutcomeFrom
+  unfolding searchOutcomeWith
   outcome-says = ap (λ (r : Result). outcomeOf (lotCount s) r grouping store) (program-result s grouping store (searchTree (conditions s)) (lent .lots) (lent .records))
 
   -- A refusal, by a check or by the full store.

@@ -4,7 +4,7 @@ use mathlib.Core.List.{List, [], _∷_, _++_, map}
 use lib.ListN.{take}
 use Rattle.sheet.specs.Format.{lowestLot, lotCount, conditionCount, recordCount}
 use Rattle.sheet.specs.Conditions.{conditions}
-use Rattle.sheet.specs.Checks.{sheetVerdictFrom}
+use Rattle.sheet.specs.Checks.{sheetVerdictWith}
 use Rattle.equality.specs.Search.{searchTree, nodeCount, metDecisions, groupingBytes}
 use Rattle.store.specs.Records.{NodeRecord, splitRecord, groundRecord, metRecord, noRecord}
 use Rattle.outcome.specs.Nodes.{records}
@@ -56,9 +56,9 @@ resultText s (metResult tree) =
 resultText s (cannotResult tree) = headerLine s ++ recordLines (records 1 tree) ++ cannotLine (nodeCount tree)
 
 -- What the program prints for an input: where lots count from `lowest`, and as they do.
-unfoldable pub printedFrom : ℕ → List ℕ → List ℕ
-printedFrom lowest input =
-    let s = take mostInput input in resultText s (resultOf (sheetVerdictFrom lowest s) programCapacity (searchTree (conditions s)))
+unfoldable pub printedWith : ℕ → List ℕ → List ℕ
+printedWith lowest input =
+    let s = take mostInput input in resultText s (resultOf (sheetVerdictWith lowest s) programCapacity (searchTree (conditions s)))
 
 abbrev pub printed : List ℕ → List ℕ
-printed input = printedFrom lowestLot input
+printed input = printedWith lowestLot input

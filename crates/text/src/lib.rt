@@ -19,7 +19,7 @@ pub const TEXT_ROOM: usize = 170000;
 // The most bytes that are taken of an input: one more than the longest sheet has, so that one too long is refused.
 pub const MOST_INPUT: usize = 8711;
 
-// A byte for each lot that a sheet can have.
+// A byte for each of the most lots that a sheet can have, lot 0 not counted.
 const GROUPING_ROOM: usize = 128;
 
 // 7,000 node records.

@@ -8,20 +8,20 @@ use borrow.Author.Tests.{le-leb}
 use Rattle.buffers.specs.Lists.{All}
 use Rattle.sheet.specs.declared.Verdict.{Verdict}
 use Rattle.sheet.specs.Format.{lowestLot, lotCount, recordCount, vacant, firstLotAt, secondLotAt}
-use Rattle.sheet.specs.Checks.{lotInRange, wellFormed, check5, sheetChecksFrom}
+use Rattle.sheet.specs.Checks.{lotInRange, wellFormed, check5, sheetChecksWith}
 use Rattle.sheet.proofs.Verdicts.{lowest-agrees}
 use Rattle.store.specs.Records.{NodeRecord, splitRecord, groundRecord, metRecord, noRecord}
 use Rattle.refutation.specs.Refutation.{Split, walkRecord, walkFrom}
-use Rattle.zero_lot.specs.Unnamed.{Other, SheetNever, RecordNever}
+use Rattle.zero_lot.specs.Unnamed.{NotZero, SheetNeverNames, RecordNeverNames}
 
 -- ---- a lot
 
-in-range : (n lot : ℕ) → Other lot → lotInRange 1 n lot ≡ lotInRange lowestLot n lot
+in-range : (n lot : ℕ) → NotZero lot → lotInRange 1 n lot ≡ lotInRange lowestLot n lot
 in-range n lot other = rw (le-leb 1 lot (omega (arith, other)), le-leb lowestLot lot (omega arith)) refl
 
 -- ---- a sheet's checks
 
-module _ (s : List ℕ) (never : SheetNever s) where
+module _ (s : List ℕ) (never : SheetNeverNames s) where
   record-alike : (r : ℕ) → 1 ≤ r → r ≤ recordCount s → (v : Bool) → vacant s r ≡ v → (v || wellFormed 1 s r) ≡ (v || wellFormed lowestLot s r)
   unfolding wellFormed
   record-alike r low high true e = refl
@@ -35,21 +35,21 @@ module _ (s : List ℕ) (never : SheetNever s) where
       lowest-agrees 5 (λ r. not (vacant s r || wellFormed 1 s r)) (λ r. not (vacant s r || wellFormed lowestLot s r)) (recordCount s) 1
       (λ r low high. ap not (record-alike r low (omega arith) (vacant s r) refl))
 
-  pub checks-alike : sheetChecksFrom 1 s ≡ sheetChecksFrom lowestLot s
-  unfolding sheetChecksFrom
+  pub checks-alike : sheetChecksWith 1 s ≡ sheetChecksWith lowestLot s
+  unfolding sheetChecksWith
   checks-alike = rw five-alike
 
 -- ---- the walk over a list
 
 module _ (s : List ℕ) where
-  one-alike : (r : NodeRecord) → RecordNever r → (rest : List NodeRecord) (at : ℕ) (above : List Split) {walk other : ℕ → List Split → Verdict} → walk ≡ other
+  one-alike : (r : NodeRecord) → RecordNeverNames r → (rest : List NodeRecord) (at : ℕ) (above : List Split) {walk other : ℕ → List Split → Verdict} → walk ≡ other
       → walkRecord 1 s walk rest at above r ≡ walkRecord lowestLot s other rest at above r
   one-alike (splitRecord a b next) never rest at above e = rw (in-range (lotCount s) a (never .0), in-range (lotCount s) b (never .1), e)
   one-alike (groundRecord c) never rest at above e = rw e
   one-alike metRecord never rest at above e = refl
   one-alike noRecord never rest at above e = refl
 
-  pub walk-alike : (list : List NodeRecord) → All RecordNever list → walkFrom 1 s list ≡ walkFrom lowestLot s list
+  pub walk-alike : (list : List NodeRecord) → All RecordNeverNames list → walkFrom 1 s list ≡ walkFrom lowestLot s list
   unfolding walkFrom
   walk-alike [] never = refl
   walk-alike (r ∷ rest) never =

@@ -45,7 +45,7 @@ module _ (start : tie.Start) where
 abbrev begun : tie.Else1 → tie.Start
 begun c = c .before .before .before .before .before
 
--- Past the tests both lots are the sheet's.
+-- Past the tests both lots are in range.
 first : (c : tie.Else1) → lotInRange lowestLot (begun c .args .n) (a (begun c)) ≡ true
 first c = sym (c .before .in-lots .ensures) ∙ not-false _ (c .if1 .left)
 

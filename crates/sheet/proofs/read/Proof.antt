@@ -3,7 +3,7 @@ use Prim.Native.Nat.{ℕ}
 use mathlib.Core.List.{List}
 use mathlib.Core.Path.{sym, _∙_}
 use borrow.Author.Needs.{needs}
-use Rattle.sheet.specs.Answers.{readAnswerFrom}
+use Rattle.sheet.specs.Answers.{readAnswerWith}
 use Rattle.sheet.proofs.Accepted.{header-whole, sound}
 use Rattle.sheet.proofs.read.Statement.{statement}
 use Rattle.sheet.proofs.read.Tie as tie
@@ -24,13 +24,13 @@ header-of-requires c κs =
     header-whole (sound s (sym (v .first-refusal .ensures) ∙ c .enum-told .given .1) .header)
 
 returns : tie.Need-returns
-unfolding readAnswerFrom
+unfolding readAnswerWith
 returns c =
     let v = c .before .before .before in
     rw (sym (v .first-refusal .ensures) ∙ c .before .v .given .1)
 
 returns-2 : tie.Need-returns-2
-unfolding readAnswerFrom
+unfolding readAnswerWith
 returns-2 c =
     let v = c .before .before .before in
     rw (sym (v .first-refusal .ensures) ∙ c .before .enum-told .given .1, c .header-of .ensures)
