@@ -23,6 +23,21 @@ impl Record {
     }
 }
 
+/// "Kind 1 split: lots a and b."
+pub fn split(a: u16, b: u16, next: u16) -> Record {
+    Record { kind: SPLIT, spare: 0, first: a, second: b, next }
+}
+
+/// "Kind 2 ground: the condition, then 0."
+pub fn ground(condition: u16) -> Record {
+    Record { kind: GROUND, spare: 0, first: condition, second: 0, next: 0 }
+}
+
+/// "Kind 3 met: 0, 0."
+pub fn met() -> Record {
+    Record { kind: MET, spare: 0, first: 0, second: 0, next: 0 }
+}
+
 /// The bytes of a list of records, one after the other.
 pub fn list_bytes(records: &[Record]) -> Vec<u8> {
     records.iter().flat_map(|record| record.to_bytes()).collect()

@@ -2,17 +2,9 @@
 use second::answer::Answer;
 use second::limits::{MOST_NODES, MOST_SPLITS_ABOVE};
 use second::sheet::Term;
-use second::store::{Record, list_bytes};
+use second::store::{Record, ground, list_bytes, split};
 use second::writer::{apart, same, sheet_bytes};
 use second::{Refusal, check};
-
-fn split(a: u16, b: u16, next: u16) -> Record {
-    Record { kind: 1, spare: 0, first: a, second: b, next }
-}
-
-fn ground(condition: u16) -> Record {
-    Record { kind: 2, spare: 0, first: condition, second: 0, next: 0 }
-}
 
 /// Sheet A.
 fn conditions() -> Vec<Vec<Term>> {

@@ -1,47 +1,14 @@
 //! Every sheet of document 01's "Sheets to try"; that with a zero head as document 02 turns it.
+mod searching;
+
+use searching::{cannot, met_by};
 use second::answer::Answer;
 use second::sheet::Term;
-use second::store::{Record, list_bytes};
+use second::store::{ground, met, split};
 use second::writer::{apart, same, sheet_bytes};
-use second::{Refusal, check, evaluate, read, search};
+use second::{Refusal, read, search};
 
 const FILL: u8 = 0xA7;
-
-fn split(a: u16, b: u16, next: u16) -> Record {
-    Record { kind: 1, spare: 0, first: a, second: b, next }
-}
-
-fn ground(condition: u16) -> Record {
-    Record { kind: 2, spare: 0, first: condition, second: 0, next: 0 }
-}
-
-fn met() -> Record {
-    Record { kind: 3, spare: 0, first: 0, second: 0, next: 0 }
-}
-
-/// The search answers as stated, writes these records and nothing after them.
-fn searched(sheet: &[u8], lots: usize, expected: Answer, nodes: &[Record]) -> Vec<u8> {
-    let (mut grouping, mut store) = (vec![FILL; lots + 2], vec![FILL; 99]);
-    assert_eq!(search(sheet, &mut grouping, &mut store), Ok(expected));
-    assert_eq!(store[..8 * nodes.len()], list_bytes(nodes));
-    assert!(store[8 * nodes.len()..].iter().all(|&byte| byte == FILL));
-    assert!(grouping[lots..].iter().all(|&byte| byte == FILL));
-    grouping.truncate(lots);
-    grouping
-}
-
-fn cannot(lots: usize, conditions: &[Vec<Term>], nodes: &[Record]) {
-    let sheet = sheet_bytes(lots, conditions);
-    let grouping = searched(&sheet, lots, Answer::Cannot { count: nodes.len() }, nodes);
-    assert!(grouping.iter().all(|&byte| byte == FILL));
-    assert_eq!(check(&sheet, &list_bytes(nodes)), Ok(Answer::Passes));
-}
-
-fn met_by(lots: usize, conditions: &[Vec<Term>], nodes: &[Record], expected: &[u8]) {
-    let sheet = sheet_bytes(lots, conditions);
-    assert_eq!(searched(&sheet, lots, Answer::Met { count: nodes.len() }, nodes), expected);
-    assert_eq!(evaluate(&sheet, expected), Ok(Answer::AllMet));
-}
 
 fn sheet_c() -> Vec<Vec<Term>> {
     vec![vec![same(1, 2), same(1, 3)], vec![apart(1, 2)]]

@@ -1,46 +1,15 @@
 //! Document 02's job 5: lot 0 in terms, splits and groupings, each by hand.
+mod searching;
+
+use searching::{cannot, met_by};
 use second::answer::{Answer, numbers};
 use second::merge::merge_numbers;
 use second::sheet::Term;
-use second::store::{Record, list_bytes};
+use second::store::{Record, ground, list_bytes, met, split};
 use second::writer::{apart, same, sheet_bytes, sheet_bytes_among};
 use second::{Refusal, check, evaluate, merge, read, repack, search};
 
 const FILL: u8 = 0xA7;
-
-fn split(a: u16, b: u16, next: u16) -> Record {
-    Record { kind: 1, spare: 0, first: a, second: b, next }
-}
-
-fn ground(condition: u16) -> Record {
-    Record { kind: 2, spare: 0, first: condition, second: 0, next: 0 }
-}
-
-fn met() -> Record {
-    Record { kind: 3, spare: 0, first: 0, second: 0, next: 0 }
-}
-
-/// The search answers as stated and writes these records; what it leaves of the grouping, whose bytes past n stay as they were.
-fn searched(sheet: &[u8], lots: usize, expected: Answer, nodes: &[Record]) -> Vec<u8> {
-    let (mut grouping, mut store) = (vec![FILL; lots + 2], vec![FILL; 8 * nodes.len() + 3]);
-    assert_eq!(search(sheet, &mut grouping, &mut store), Ok(expected));
-    assert_eq!(store, [list_bytes(nodes), vec![FILL; 3]].concat());
-    assert_eq!(grouping[lots..], [FILL; 2]);
-    grouping.truncate(lots);
-    grouping
-}
-
-fn cannot(lots: usize, conditions: &[Vec<Term>], nodes: &[Record]) {
-    let sheet = sheet_bytes(lots, conditions);
-    assert_eq!(searched(&sheet, lots, Answer::Cannot { count: nodes.len() }, nodes), vec![FILL; lots]);
-    assert_eq!(check(&sheet, &list_bytes(nodes)), Ok(Answer::Passes));
-}
-
-fn met_by(lots: usize, conditions: &[Vec<Term>], nodes: &[Record], expected: &[u8]) {
-    let sheet = sheet_bytes(lots, conditions);
-    assert_eq!(searched(&sheet, lots, Answer::Met { count: nodes.len() }, nodes), expected);
-    assert_eq!(evaluate(&sheet, expected), Ok(Answer::AllMet));
-}
 
 #[test]
 fn a_term_on_lot_0_alone() {
