@@ -24,6 +24,7 @@ whichOf (Refuses check place) second = 1
 whichOf Passes (Refuses check place) = 2
 whichOf Passes Passes = 0
 
+-- Of two sheets: where lots count from `lowest`, and as they do.
 unfoldable pub whichRefusedWith : ℕ → List ℕ → List ℕ → ℕ
 whichRefusedWith lowest s t = whichOf (sheetVerdictWith lowest s) (sheetVerdictWith lowest t)
 

@@ -32,7 +32,7 @@ pub record InLots (n lot : ℕ) : Type 0 where
   pub low : lowestLot ≤ lot
   pub high : lot ≤ n
 
--- Both lots of a term are such and such; and such ones.
+-- Both lots of a term are such and such; a term names two lots that it may.
 abbrev pub BothLots : (ℕ → Type 0) → Term → Type 0
 BothLots P t = P (firstLot t) × P (secondLot t)
 
