@@ -27,7 +27,7 @@ use Rattle.checker.specs.Answers.{checkedAnswer, PassedExactly, PassedMeans}
 use Rattle.writer.specs.Answers.{OfWritten}
 use Rattle.repack.specs.Repack.{repackedLength, repackVerdict, repackAnswer, repackAnswerWith}
 use Rattle.repack.proofs.Answering.{repack-numbered}
-use Rattle.merge.specs.Repeats.{anyCondition}
+use Rattle.merge.specs.Repeats.{hasTerms}
 use Rattle.merge.specs.Merge.{mergedLength, mergeVerdict, mergeAnswer, mergeAnswerWith}
 use Rattle.merge.proofs.Answering.{merge-numbered}
 use Rattle.lihumbay.specs.Answers.{numbersOf, mergeNumbers}
@@ -139,7 +139,7 @@ pub zero-merged : (P : List ℕ → Type 0) (out′ : List ℕ) (a : Answer) (sh
 zero-merged P out′ (refused check place) sheet number holds = λ z. absurd (omega (arith, z, number check place refl))
 zero-merged P out′ (answered first second third) sheet number holds = λ z. holds
 
-pub merge-first : (s t out : List ℕ) (a : Answer) → a ≡ mergeAnswer anyCondition s t out → First a
+pub merge-first : (s t out : List ℕ) (a : Answer) → a ≡ mergeAnswer hasTerms s t out → First a
 unfolding mergeAnswerWith
 merge-first s t out a answer check place e =
-    refusal-number (merge-numbered anyCondition s t out) (answer-refuses (mergeVerdict anyCondition s t out) (mergedLength anyCondition s t) 0 0 (sym e ∙ answer)) .0
+    refusal-number (merge-numbered hasTerms s t out) (answer-refuses (mergeVerdict hasTerms s t out) (mergedLength hasTerms s t) 0 0 (sym e ∙ answer)) .0

@@ -14,7 +14,7 @@ ghost use Rattle.checker.specs.Answers.{checkedAnswer};
 ghost use Rattle.writer.specs.Answers.{writtenAnswer};
 ghost use Rattle.repack.specs.Repack.{repacked, repackAnswer, repackOut};
 ghost use Rattle.repack.specs.Promises.{Alike, ServedAlike};
-ghost use Rattle.merge.specs.Repeats.{anyCondition};
+ghost use Rattle.merge.specs.Repeats.{hasTerms};
 ghost use Rattle.merge.specs.Merge.{mergedConditions, whichRefused, mergeAnswer, mergeOut};
 ghost use Rattle.merge.specs.Answers.{mergedAnswer, sheetRefused};
 ghost use Rattle.merge.specs.Promises.{MeetsBoth};
@@ -193,13 +193,13 @@ pub extern "C" fn lihumbay_repack(sheet: &[u8], out: &mut [u8]) -> Numbers
 // Merging: how many bytes of the output were written. A refusal from reading has 1 or 2 behind the place, for the sheet that it came from.
 #[no_mangle]
 pub extern "C" fn lihumbay_merge(first: &[u8], second: &[u8], out: &mut [u8]) -> Numbers
-    ensures answer { λ r. ⌜ r ≡ mergeNumbers (mergeAnswer anyCondition (now (first .entry)) (now (second .entry)) (now (out .entry)))
+    ensures answer { λ r. ⌜ r ≡ mergeNumbers (mergeAnswer hasTerms (now (first .entry)) (now (second .entry)) (now (out .entry)))
         (whichRefused (now (first .entry)) (now (second .entry))) ⌝ }
-    ensures output { λ r. ⌜ now (out .exit) ≡ mergeOut anyCondition (now (first .entry)) (now (second .entry)) (now (out .entry)) ⌝ }
+    ensures output { λ r. ⌜ now (out .exit) ≡ mergeOut hasTerms (now (first .entry)) (now (second .entry)) (now (out .entry)) ⌝ }
     ensures accepted { λ r. ⌜ ZeroWritten (λ w. Accepted w) r (now (out .exit)) ⌝ }
     ensures packed { λ r. ⌜ ZeroWritten (λ w. repacked w ≡ w) r (now (out .exit)) ⌝ }
     ensures lots { λ r. ⌜ ZeroWritten (λ w. lotCount w ≡ max (lotCount (now (first .entry))) (lotCount (now (second .entry)))) r (now (out .exit)) ⌝ }
-    ensures conditions { λ r. ⌜ ZeroWritten (λ w. conditions w ≡ mergedConditions anyCondition (now (first .entry)) (now (second .entry)))
+    ensures conditions { λ r. ⌜ ZeroWritten (λ w. conditions w ≡ mergedConditions hasTerms (now (first .entry)) (now (second .entry)))
         r (now (out .exit)) ⌝ }
     ensures meets { λ r. ⌜ ZeroWritten (λ w. MeetsBoth w (now (first .entry)) (now (second .entry))) r (now (out .exit)) ⌝ }
 {

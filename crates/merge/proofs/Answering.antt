@@ -2,7 +2,7 @@
 use Prim.Native.Nat.{ℕ, _≤_, _<_}
 use mathlib.Core.Bool.{Bool}
 use mathlib.Core.List.{List, [], _∷_, _++_, flatten}
-use mathlib.Core.Path.{_≡_, refl, sym, ap, subst, _∙_}
+use mathlib.Core.Path.{_≡_, refl, sym, ap, ap₂, subst, _∙_}
 use native.Mathlib.Omega.{arith}
 use borrow.Author.Tests.{lt-ltb, le-ltb, ltb-false}
 use lib.Dec.{ltb}
@@ -21,9 +21,10 @@ use Rattle.sheet.proofs.Numbered.{Numbered, either, test, sheet-numbered}
 use Rattle.writer.specs.Answers.{outputAfter}
 use Rattle.canonical.specs.Canonical.{canonical}
 use Rattle.repack.specs.Promises.{Alike}
-use Rattle.merge.specs.Repeats.{withoutRepeats, anyCondition}
+use Rattle.merge.specs.Repeats.{withoutRepeats, hasTerms}
 use Rattle.merge.specs.Merge.{whichRefused, whichRefusedWith, mergedConditions, merged, mergedLength, check18, check19, mergeVerdict, mergeVerdictWith, mergeAnswer, mergeAnswerWith, mergeOut, mergeOutWith}
-use Rattle.merge.proofs.Merged.{merged-length, merged-itself, itself-within}
+use Rattle.merge.proofs.Left.{mustStay}
+use Rattle.merge.proofs.Merged.{merged-length, itself-conditions, itself-terms}
 
 -- ---- which sheet is refused
 
@@ -191,13 +192,16 @@ module _ (mayLeaveOut : List Term → Bool) (s s′ t t′ : List ℕ) (alike : 
 
 -- ---- a sheet with itself
 
--- Where the output is long enough, it is answered and written without its repeats.
-module _ (s out : List ℕ) (ok : Accepted s) (room : mergedLength anyCondition s s ≤ length out) where
-  itself-passes : mergeVerdict anyCondition s s out ≡ Passes
-  itself-passes = let within = itself-within s ok in all-pass anyCondition s s out ok ok (within .0) (within .1) room
+-- Where 18 doesn't refuse its conditions, and the output is long enough, it is answered and written without its repeats, and with its withdrawn conditions once
+-- more.
+module _ (s out : List ℕ) (ok : Accepted s) (few : length (mergedConditions hasTerms s s) ≤ mostConditions) (room : mergedLength hasTerms s s ≤ length out) where
+  itself-passes : mergeVerdict hasTerms s s out ≡ Passes
+  itself-passes = all-pass hasTerms s s out ok ok few (itself-terms s ok) room
 
-  pub itself-answer : mergeAnswer anyCondition s s out ≡ answered (mergedLength anyCondition s s) 0 0
-  itself-answer = answer-by anyCondition s s out Passes itself-passes
+  pub itself-answer : mergeAnswer hasTerms s s out ≡ answered (mergedLength hasTerms s s) 0 0
+  itself-answer = answer-by hasTerms s s out Passes itself-passes
 
-  pub itself-output : mergeOut anyCondition s s out ≡ written (canonical (lotCount s) (withoutRepeats anyCondition [] (conditions s))) out
-  itself-output = output-by anyCondition s s out Passes itself-passes ∙ ap (λ (w : List ℕ). written w out) (merged-itself s)
+  pub itself-output : mergeOut hasTerms s s out ≡ written (canonical (lotCount s) (withoutRepeats hasTerms [] (conditions s) ++ mustStay hasTerms (conditions s))) out
+  itself-output =
+      output-by hasTerms s s out Passes itself-passes
+      ∙ ap (λ (w : List ℕ). written w out) (ap₂ canonical (omega arith) (itself-conditions hasTerms s))

@@ -15,7 +15,7 @@ use Rattle.writer.proofs.Packing.{terms-append, conditions-append, room-front, 
 use Rattle.writer.proofs.Whole.{whole}
 use Rattle.merge.specs.declared.kept.Kept.{Kept}
 use Rattle.merge.specs.declared.kept.Both.{Both}
-use Rattle.merge.specs.Repeats.{withoutRepeats, anyCondition}
+use Rattle.merge.specs.Repeats.{withoutRepeats, hasTerms}
 use Rattle.merge.specs.Merge.{mergedLots, mergedConditions, merged, mergedLength}
 use Rattle.merge.specs.Inner.{numberIn, keptOf, EntriesOf, Gathered, Entered}
 use Rattle.merge.proofs.Merged.{merged-halves}
@@ -39,16 +39,16 @@ module _ (s t : List ℕ) {start middle entries : List ℕ} {a b : Kept} (first 
   still = entries-still (first .entered) (second .before) (omega (arith, second .entered .order, second .entered .room))
 
   -- and with those of the second they have the conditions of the result.
-  halves : mine ++ others ≡ mergedConditions anyCondition s t
+  halves : mine ++ others ≡ mergedConditions hasTerms s t
   halves =
       ap₂ {C = List (List Term)} _++_ (ap (keptOf s) (second .before) ∙ first .stay)
-      (second .stay ∙ ap (λ (earlier : List (List Term)). withoutRepeats anyCondition earlier (conditions t)) (first .stay))
-      ∙ sym (merged-halves anyCondition s t)
+      (second .stay ∙ ap (λ (earlier : List (List Term)). withoutRepeats hasTerms earlier (conditions t)) (first .stay))
+      ∙ sym (merged-halves hasTerms s t)
 
   terms-first : length (flatten (keptOf s (slice 0 (a .upto) middle))) ≡ length (flatten mine)
   terms-first = ap (λ (es : List ℕ). length (flatten (keptOf s es))) (sym (second .before))
 
-  counted : b .upto ≡ length (mergedConditions anyCondition s t)
+  counted : b .upto ≡ length (mergedConditions hasTerms s t)
   counted =
       let first-many = kept-length s 0 (a .upto) entries still in
       let second-many = kept-length t (a .upto) (b .upto) entries (second .entered) in
@@ -69,7 +69,7 @@ module _ (s t : List ℕ) {start middle entries : List ℕ} {a b : Kept} (first 
 
 module _ {s t entries : List ℕ} {r : Both} (l : Entered s t entries r) where
   -- The length needed is that of a sheet with their counts.
-  pub needed : sheetLength (r .upto) (r .terms) ≡ mergedLength anyCondition s t
+  pub needed : sheetLength (r .upto) (r .terms) ≡ mergedLength hasTerms s t
   needed = ap₂ sheetLength (l .conditions′) (l .terms)
 
   module _ (out : List ℕ) (n : ℕ) (short : r .terms ≤ mostRecords) (fits : sheetLength (r .upto) (r .terms) ≤ length out) where
@@ -94,7 +94,7 @@ module _ {s t entries : List ℕ} {r : Both} (l : Entered s t entries r) where
     room-others = room-back mine′ others′ header room
 
     -- all of them, behind the header, are the merged sheet.
-    pub counts-whole : n ≡ mergedLots s t → withConditions others′ (withConditions mine′ header) .bytes ≡ written (merged anyCondition s t) out
+    pub counts-whole : n ≡ mergedLots s t → withConditions others′ (withConditions mine′ header) .bytes ≡ written (merged hasTerms s t) out
     counts-whole lots =
         ap (λ (d : Draft). d .bytes) (sym (conditions-append mine′ others′ header))
-        ∙ rw (l .result, lots, l .conditions′, l .terms) (whole (mergedLots s t) (mergedConditions anyCondition s t) out (omega (arith, needed)))
+        ∙ rw (l .result, lots, l .conditions′, l .terms) (whole (mergedLots s t) (mergedConditions hasTerms s t) out (omega (arith, needed)))

@@ -12,7 +12,7 @@ use Rattle.writer.specs.Answers.{outputAfter, OfWritten}
 use Rattle.equality.specs.Meaning.{Meets}
 use Rattle.repack.specs.Repack.{repacked}
 use Rattle.merge.specs.declared.MergeAnswer.{MergeAnswer}
-use Rattle.merge.specs.Repeats.{anyCondition}
+use Rattle.merge.specs.Repeats.{hasTerms}
 use Rattle.merge.specs.Merge.{whichRefused, mergedConditions, merged, mergeVerdict, mergeAnswer, mergeOut}
 use Rattle.merge.specs.Answers.{mergedAnswer, sheetRefused}
 use Rattle.merge.specs.Promises.{MeetsBoth}
@@ -25,44 +25,44 @@ module _ (s t out : List ℕ) where
   -- Of the answer, of the sheet that it names, and of the output.
   abbrev pub Equations : MergeAnswer → List ℕ → Type 0
   Equations r out′ =
-      (mergedAnswer r ≡ mergeAnswer anyCondition s t out)
+      (mergedAnswer r ≡ mergeAnswer hasTerms s t out)
       × ((sheetRefused r ≡ whichRefused s t)
-      × (out′ ≡ mergeOut anyCondition s t out))
+      × (out′ ≡ mergeOut hasTerms s t out))
 
   -- The verdict decides.
-  pub equations : (v : Verdict) → mergeVerdict anyCondition s t out ≡ v → (r : MergeAnswer) (out′ : List ℕ)
-      → mergedAnswer r ≡ answerBy anyCondition s t v → sheetRefused r ≡ whichRefused s t → out′ ≡ outputAfter (answerBy anyCondition s t v) (merged anyCondition s t) out
+  pub equations : (v : Verdict) → mergeVerdict hasTerms s t out ≡ v → (r : MergeAnswer) (out′ : List ℕ)
+      → mergedAnswer r ≡ answerBy hasTerms s t v → sheetRefused r ≡ whichRefused s t → out′ ≡ outputAfter (answerBy hasTerms s t v) (merged hasTerms s t) out
       → Equations r out′
   equations v e r out′ told sheet left =
-      (told ∙ sym (answer-by anyCondition s t out v e), (sheet, left ∙ sym (output-by anyCondition s t out v e)))
+      (told ∙ sym (answer-by hasTerms s t out v e), (sheet, left ∙ sym (output-by hasTerms s t out v e)))
 
   -- ---- what is written
 
   -- What holds of the merged sheet, where it is within its limits, holds of what is written.
-  of-written : (P : List ℕ → Type 0) → ((n : ℕ) → Fitted anyCondition s t out n → P (merged anyCondition s t)) → (a : Answer) → a ≡ mergeAnswer anyCondition s t out
-      → OfWritten P a (mergeOut anyCondition s t out)
+  of-written : (P : List ℕ → Type 0) → ((n : ℕ) → Fitted hasTerms s t out n → P (merged hasTerms s t)) → (a : Answer) → a ≡ mergeAnswer hasTerms s t out
+      → OfWritten P a (mergeOut hasTerms s t out)
   of-written P holds (refused check place) e = tt
   of-written P holds (answered n second third) e =
-      let f = fitted anyCondition s t out n second third e in
+      let f = fitted hasTerms s t out n second third e in
       subst P (sym (f .bytes)) (holds n f)
 
   -- An assignment with values of any type meets it exactly when it meets both sheets. (A contract's clause cannot speak of all types: this one is a theorem only.)
-  pub written-meets-any : {A : Type 0} (f : ℕ → A) (a : Answer) → a ≡ mergeAnswer anyCondition s t out
-      → OfWritten (λ (w : List ℕ). Meets f w ↔ Meets f s × Meets f t) a (mergeOut anyCondition s t out)
+  pub written-meets-any : {A : Type 0} (f : ℕ → A) (a : Answer) → a ≡ mergeAnswer hasTerms s t out
+      → OfWritten (λ (w : List ℕ). Meets f w ↔ Meets f s × Meets f t) a (mergeOut hasTerms s t out)
   written-meets-any f =
-      of-written (λ (w : List ℕ). Meets f w ↔ Meets f s × Meets f t) (λ n l. merged-meets anyCondition s t (l .first) (l .second) (l .few) (l .short) f)
+      of-written (λ (w : List ℕ). Meets f w ↔ Meets f s × Meets f t) (λ n l. merged-meets hasTerms s t (l .first) (l .second) (l .few) (l .short) f)
 
   -- ---- all clauses
 
   abbrev pub Ensured : MergeAnswer → List ℕ → Type 0
   Ensured r out′ =
-      (mergedAnswer r ≡ mergeAnswer anyCondition s t out)
+      (mergedAnswer r ≡ mergeAnswer hasTerms s t out)
       × ((sheetRefused r ≡ whichRefused s t)
-      × ((out′ ≡ mergeOut anyCondition s t out)
+      × ((out′ ≡ mergeOut hasTerms s t out)
       × (OfWritten (λ w. Accepted w) (mergedAnswer r) out′
       × (OfWritten (λ w. repacked w ≡ w) (mergedAnswer r) out′
       × (OfWritten (λ w. lotCount w ≡ max (lotCount s) (lotCount t)) (mergedAnswer r) out′
-      × (OfWritten (λ w. conditions w ≡ mergedConditions anyCondition s t) (mergedAnswer r) out′
+      × (OfWritten (λ w. conditions w ≡ mergedConditions hasTerms s t) (mergedAnswer r) out′
       × OfWritten (λ w. MeetsBoth w s t) (mergedAnswer r) out′))))))
 
   pub ensured : (r : MergeAnswer) (out′ : List ℕ) → Equations r out′ → Ensured r out′
@@ -74,14 +74,14 @@ module _ (s t out : List ℕ) where
           (
             output,
             rw output (
-              of-written (λ w. Accepted w) (λ n l. merged-accepted anyCondition s t (l .first) (l .second) (l .few) (l .short)) a answer,
+              of-written (λ w. Accepted w) (λ n l. merged-accepted hasTerms s t (l .first) (l .second) (l .few) (l .short)) a answer,
               (
-                of-written (λ w. repacked w ≡ w) (λ n l. merged-packed anyCondition s t (l .first) (l .second) (l .few) (l .short)) a answer,
+                of-written (λ w. repacked w ≡ w) (λ n l. merged-packed hasTerms s t (l .first) (l .second) (l .few) (l .short)) a answer,
                 (
-                  of-written (λ w. lotCount w ≡ max (lotCount s) (lotCount t)) (λ n l. merged-lots anyCondition s t (l .first) (l .second) (l .few) (l .short)) a answer,
+                  of-written (λ w. lotCount w ≡ max (lotCount s) (lotCount t)) (λ n l. merged-lots hasTerms s t (l .first) (l .second) (l .few) (l .short)) a answer,
                   (
-                    of-written (λ w. conditions w ≡ mergedConditions anyCondition s t) (λ n l. merged-conditions anyCondition s t (l .first) (l .second) (l .few) (l .short)) a answer,
-                    of-written (λ w. MeetsBoth w s t) (λ n l f. merged-meets anyCondition s t (l .first) (l .second) (l .few) (l .short) f) a answer,
+                    of-written (λ w. conditions w ≡ mergedConditions hasTerms s t) (λ n l. merged-conditions hasTerms s t (l .first) (l .second) (l .few) (l .short)) a answer,
+                    of-written (λ w. MeetsBoth w s t) (λ n l f. merged-meets hasTerms s t (l .first) (l .second) (l .few) (l .short) f) a answer,
                   ),
                 ),
               ),

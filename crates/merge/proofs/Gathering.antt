@@ -12,9 +12,8 @@ use Rattle.sheet.specs.Format.{conditionCount}
 use Rattle.sheet.specs.Conditions.{Term, conditionAt, conditions}
 use Rattle.sheet.proofs.Conditions.{conditions-step, conditions-end}
 use Rattle.writer.proofs.Packing.{terms-append}
-use Rattle.merge.specs.Repeats.{repeats, withoutRepeats, anyCondition}
-use Rattle.merge.specs.Inner.{numberIn, EntryOf, keptOf, EntriesOf}
-use Rattle.merge.proofs.Equal.{repeats-append}
+use Rattle.merge.specs.Repeats.{withoutRepeats, hasTerms}
+use Rattle.merge.specs.Inner.{numberIn, EntryOf, keptOf, leavesOut, EntriesOf}
 use Rattle.merge.proofs.Entries.{entries-still}
 use Rattle.merge.proofs.Staying.{Staying, staying-start, staying-past, staying-next, staying-end}
 
@@ -59,7 +58,7 @@ module _ (s : List ℕ) (from : ℕ) (t start : List ℕ) where
     pub before : take from entries ≡ take from start
     pub entered : EntriesOf t from upto entries
     pub few : upto ≤ from + c
-    pub staying : Staying anyCondition earlier (conditions t) (keptOf t (slice from upto entries)) (drop c (conditions t))
+    pub staying : Staying hasTerms earlier (conditions t) (keptOf t (slice from upto entries)) (drop c (conditions t))
     pub counted : terms ≡ length (flatten (keptOf t (slice from upto entries)))
     pub short : terms + length (flatten (drop c (conditions t))) ≤ length (flatten (conditions t))
 
@@ -73,7 +72,7 @@ module _ (s : List ℕ) (from : ℕ) (t start : List ℕ) where
         before = refl;
         entered = record { order = omega arith; room = before .room; each = subst (All (EntryOf t)) (sym none) tt };
         few = omega arith;
-        staying = rw none (staying-start anyCondition earlier (conditions t));
+        staying = rw none (staying-start hasTerms earlier (conditions t));
         counted = rw none refl;
         short = omega arith;
       }
@@ -93,58 +92,51 @@ module _ (s : List ℕ) (from : ℕ) (t start : List ℕ) where
       step : drop c (conditions t) ≡ next ∷ drop (suc c) (conditions t)
       step = conditions-step t c more
 
-      staying-here : Staying anyCondition earlier (conditions t) found (next ∷ drop (suc c) (conditions t))
-      staying-here = subst (Staying anyCondition earlier (conditions t) found) step (l .staying)
+      staying-here : Staying hasTerms earlier (conditions t) found (next ∷ drop (suc c) (conditions t))
+      staying-here = subst (Staying hasTerms earlier (conditions t) found) step (l .staying)
 
       left : length (flatten (drop c (conditions t))) ≡ length next + length (flatten (drop (suc c) (conditions t)))
       unfolding flatten
       left = ap (λ (tss : List (List Term)). length (flatten tss)) step ∙ length-append next (flatten (drop (suc c) (conditions t)))
 
-      -- The next condition repeats one, and is passed over:
-      past : repeats next (earlier ++ found) ≡ true → Gathering (suc c) entries upto terms
-      past e =
+      -- The next condition is left out,
+      pub gathering-past : leavesOut next (earlier ++ found) ≡ true → Gathering (suc c) entries upto terms
+      gathering-past e =
           record {
             within = more;
             sized = l .sized;
             before = l .before;
             entered = l .entered;
             few = omega (arith, l .few);
-            staying = staying-past anyCondition earlier (conditions t) staying-here e;
+            staying = staying-past hasTerms earlier (conditions t) staying-here e;
             counted = l .counted;
             short = omega (arith, l .short, left);
           }
 
-      -- one of the first sheet, or one of its own;
-      pub repeats-first : repeats next earlier ≡ true → Gathering (suc c) entries upto terms
-      repeats-first e = past (repeats-append next earlier found ∙ rw e)
-
-      pub repeats-own : repeats next earlier ≡ false → repeats next found ≡ true → Gathering (suc c) entries upto terms
-      repeats-own e f = past (repeats-append next earlier found ∙ rw (e, f))
-
-      -- or it repeats none, and is entered: its terms are among all terms.
+      -- or it stays, and is entered: its terms are among all terms.
       pub terms-few : terms + length next ≤ length (flatten (conditions t))
       terms-few = omega (arith, l .short, left)
 
-      pub one-more : repeats next earlier ≡ false → repeats next found ≡ false → upto < length entries → (entry : ℕ) → EntryOf t entry → numberIn entry ≡ suc c
+      pub one-more : leavesOut next (earlier ++ found) ≡ false → upto < length entries → (entry : ℕ) → EntryOf t entry → numberIn entry ≡ suc c
           → (new : ℕ) → new ≡ length next → Gathering (suc c) (set entries upto entry) (suc upto) (terms + new)
-      one-more e f room entry one number new count =
+      one-more e room entry one number new count =
           let kept : keptOf t (slice from (suc upto) (set entries upto entry)) ≡ found ++ next ∷ [] =
           kept-last t from upto entries (l .entered) room entry ∙ ap (λ (i : ℕ). found ++ conditionAt t i ∷ []) number in
-          let stays : Staying anyCondition earlier (conditions t) (found ++ next ∷ []) (drop (suc c) (conditions t)) =
-          staying-next anyCondition earlier (conditions t) staying-here (repeats-append next earlier found ∙ rw (e, f)) in
+          let stays : Staying hasTerms earlier (conditions t) (found ++ next ∷ []) (drop (suc c) (conditions t)) =
+          staying-next hasTerms earlier (conditions t) staying-here e in
           record {
             within = more;
             sized = length-set entries upto entry ∙ l .sized;
             before = take-set-le from entries upto entry (l .entered .order) ∙ l .before;
             entered = entered-last t from upto entries (l .entered) room entry one;
             few = omega (arith, l .few);
-            staying = subst (λ (tss : List (List Term)). Staying anyCondition earlier (conditions t) tss (drop (suc c) (conditions t))) (sym kept) stays;
+            staying = subst (λ (tss : List (List Term)). Staying hasTerms earlier (conditions t) tss (drop (suc c) (conditions t))) (sym kept) stays;
             counted = omega (arith, l .counted, terms-last found next, ap (λ (tss : List (List Term)). length (flatten tss)) kept);
             short = omega (arith, l .short, left);
           }
 
     -- Past the last condition, all that stay are entered.
-    pub all-stay : conditionCount t ≤ c → keptOf t (slice from upto entries) ≡ withoutRepeats anyCondition earlier (conditions t)
+    pub all-stay : conditionCount t ≤ c → keptOf t (slice from upto entries) ≡ withoutRepeats hasTerms earlier (conditions t)
     all-stay h =
-        staying-end anyCondition earlier (conditions t)
-        (subst (Staying anyCondition earlier (conditions t) (keptOf t (slice from upto entries))) (conditions-end t c h) (l .staying))
+        staying-end hasTerms earlier (conditions t)
+        (subst (Staying hasTerms earlier (conditions t) (keptOf t (slice from upto entries))) (conditions-end t c h) (l .staying))

@@ -9,7 +9,7 @@ use lib.ListN.{length, getD, length-append}
 use Rattle.buffers.specs.Lists.{All}
 use Rattle.buffers.proofs.Lists.{all-map}
 use Rattle.sheet.specs.Conditions.{Term}
-use Rattle.merge.specs.Repeats.{equalConditions, repeats, withoutRepeats, anyCondition}
+use Rattle.merge.specs.Repeats.{equalConditions, repeats, withoutRepeats}
 use Rattle.merge.proofs.Equal.{conditions-equal, condition-itself, or-true, repeated-all, repeats-append, repeats-nth}
 
 -- ---- which are the earlier ones
@@ -188,7 +188,7 @@ module _ (mayLeaveOut : List Term → Bool) where
       false≢true (sym (un .0 may) ∙ ap (λ (us : List Term). repeats us tss) e ∙ repeats-nth tss j (omega arith))
   unrepeated-at (ts ∷ tss) un (suc i) (suc j) low high may e = unrepeated-at tss (un .1) i j (omega arith) (omega arith) may e
 
--- ---- where any condition may be left out
+-- ---- conditions that are all earlier ones
 
 -- Each of a list is one of them.
 each-repeats : (tss : List (List Term)) → All (λ (ts : List Term). repeats ts tss ≡ true) tss
@@ -197,15 +197,24 @@ each-repeats [] = tt
 each-repeats (ts ∷ tss) =
     (rw (condition-itself ts), all-map (λ (us : List Term) (e : repeats us tss ≡ true). rw e (or-true (equalConditions us ts))) tss (each-repeats tss))
 
--- Each of a list is one of those that stay,
-pub left-every : (tss : List (List Term)) → All (λ (ts : List Term). repeats ts (withoutRepeats anyCondition [] tss) ≡ true) tss
-left-every tss =
-    let stay = withoutRepeats anyCondition [] tss in
-    all-left anyCondition (λ ts. repeats ts stay ≡ true) [] tss tt (each-repeats stay)
+module _ (mayLeaveOut : List Term → Bool) where
+  -- Each of a list is one of those that stay,
+  pub left-every : (tss : List (List Term)) → All (λ (ts : List Term). repeats ts (withoutRepeats mayLeaveOut [] tss) ≡ true) tss
+  left-every tss =
+      let stay = withoutRepeats mayLeaveOut [] tss in
+      all-left mayLeaveOut (λ ts. repeats ts stay ≡ true) [] tss tt (each-repeats stay)
 
--- and of conditions that are all earlier ones, none stays.
-pub left-none : (earlier tss : List (List Term)) → All (λ (ts : List Term). repeats ts earlier ≡ true) tss → withoutRepeats anyCondition earlier tss ≡ []
-unfolding withoutRepeats
-left-none earlier [] all = refl
-left-none earlier (ts ∷ tss) all =
-    rw (all .0) (left-same anyCondition (ts ∷ earlier) earlier tss (known-same ts earlier (all .0)) ∙ left-none earlier tss (all .1))
+  -- and of conditions that are all earlier ones, just those stay that may not be left out.
+  abbrev pub mustStay : List (List Term) → List (List Term)
+  mustStay [] = []
+  mustStay (ts ∷ tss) = cond (mayLeaveOut ts) (mustStay tss) (ts ∷ mustStay tss)
+
+  pub left-known : (earlier tss : List (List Term)) → All (λ (ts : List Term). repeats ts earlier ≡ true) tss → withoutRepeats mayLeaveOut earlier tss ≡ mustStay tss
+  unfolding withoutRepeats
+  left-known earlier [] all = refl
+  left-known earlier (ts ∷ tss) all =
+      rw (all .0) (go (mayLeaveOut ts) (left-same mayLeaveOut (ts ∷ earlier) earlier tss (known-same ts earlier (all .0)) ∙ left-known earlier tss (all .1)))
+    where
+      go : (b : Bool) {rest stay : List (List Term)} → rest ≡ stay → cond (b && true) rest (ts ∷ rest) ≡ cond b stay (ts ∷ stay)
+      go true e = e
+      go false e = ap (λ (rest : List (List Term)). ts ∷ rest) e

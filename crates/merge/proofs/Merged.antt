@@ -1,9 +1,9 @@
 -- The sheet that a merge writes (document 02, job 4), for every rule of which conditions may be left out.
 use Prim.Native.Nat.{ℕ, max, _+_, _≤_, _<_}
 use mathlib.Core.Bool.{Bool, true}
-use mathlib.Core.List.{List, [], _++_, append-nil, flatten, Sublistᴰ}
+use mathlib.Core.List.{List, [], _∷_, _++_, flatten, Sublistᴰ}
 use mathlib.Core.Logic.{_↔_, _≢_}
-use mathlib.Core.Path.{_≡_, ap₂, _∙_}
+use mathlib.Core.Path.{_≡_, refl, ap, ap₂, _∙_}
 use native.Mathlib.Nat.{max-le, le-max-left, le-max-right}
 use native.Mathlib.Omega.{arith}
 use lib.ListN.{length, getD}
@@ -17,9 +17,10 @@ use Rattle.canonical.proofs.Limits.{accepted-within}
 use Rattle.canonical.proofs.Canonical.{canonical-length, canonical-lots, canonical-accepted, canonical-conditions}
 use Rattle.equality.specs.Meaning.{MeetsCondition, MeetsAll, Meets}
 use Rattle.repack.specs.Repack.{repacked}
-use Rattle.merge.specs.Repeats.{withoutRepeats, anyCondition}
+use Rattle.writer.proofs.Packing.{terms-append}
+use Rattle.merge.specs.Repeats.{withoutRepeats, hasTerms}
 use Rattle.merge.specs.Merge.{mergedLots, mergedConditions, merged, mergedLength}
-use Rattle.merge.proofs.Left.{left-append, left-part, left-few, left-terms, left-all, all-left, left-unrepeated, unrepeated-at, left-every, left-none}
+use Rattle.merge.proofs.Left.{left-append, left-part, left-terms, left-all, all-left, left-unrepeated, unrepeated-at, left-every, mustStay, left-known}
 
 -- Lots of fewer are lots of more.
 more-lots : (n m : ℕ) → n ≤ m → (tss : List (List Term)) → All (All (TermIn n)) tss → All (All (TermIn m)) tss
@@ -110,23 +111,32 @@ module _ (mayLeaveOut : List Term → Bool) (s t : List ℕ) where
     pub merged-meets : {A : Type 0} (f : ℕ → A) → (Meets f (merged mayLeaveOut s t) ↔ Meets f s × Meets f t)
     merged-meets f = rw merged-conditions (merged-meets-all f)
 
--- ---- a sheet with itself, where any condition may be left out
+-- ---- a sheet with itself
 
--- It has its conditions without its repeats,
-pub itself-conditions : (s : List ℕ) → mergedConditions anyCondition s s ≡ withoutRepeats anyCondition [] (conditions s)
-itself-conditions s =
-    merged-halves anyCondition s s
-    ∙ rw (left-none (withoutRepeats anyCondition [] (conditions s)) (conditions s) (left-every (conditions s))) (append-nil _)
+-- It has its conditions without its repeats, and then once more those that may not be left out:
+pub itself-conditions : (mayLeaveOut : List Term → Bool) (s : List ℕ)
+    → mergedConditions mayLeaveOut s s ≡ withoutRepeats mayLeaveOut [] (conditions s) ++ mustStay mayLeaveOut (conditions s)
+itself-conditions mayLeaveOut s =
+    merged-halves mayLeaveOut s s
+    ∙ rw (left-known mayLeaveOut (withoutRepeats mayLeaveOut [] (conditions s)) (conditions s) (left-every mayLeaveOut (conditions s)))
 
--- so it is its packed form without these.
-pub merged-itself : (s : List ℕ) → merged anyCondition s s ≡ canonical (lotCount s) (withoutRepeats anyCondition [] (conditions s))
-merged-itself s = ap₂ canonical (omega arith) (itself-conditions s)
+-- its withdrawn ones, which have no term.
+withdrawn-terms : (tss : List (List Term)) → flatten (mustStay hasTerms tss) ≡ []
+unfolding flatten
+withdrawn-terms [] = refl
+withdrawn-terms ([] ∷ tss) = withdrawn-terms tss
+withdrawn-terms ((t ∷ ts) ∷ tss) = withdrawn-terms tss
 
--- It is never refused by 18.
-pub itself-within : (s : List ℕ) → Accepted s → (length (mergedConditions anyCondition s s) ≤ mostConditions) × (length (flatten (mergedConditions anyCondition s s)) ≤ mostRecords)
-itself-within s ok =
-    let own = accepted-within s ok in
-    rw (itself-conditions s) (
-      omega (arith, left-few anyCondition [] (conditions s), own .conditions),
-      omega (arith, left-terms anyCondition [] (conditions s), own .records),
+-- So 18 never refuses it for its terms.
+pub itself-terms : (s : List ℕ) → Accepted s → length (flatten (mergedConditions hasTerms s s)) ≤ mostRecords
+itself-terms s ok =
+    let stay = withoutRepeats hasTerms [] (conditions s) in
+    let more = mustStay hasTerms (conditions s) in
+    omega (
+      arith,
+      ap (λ (tss : List (List Term)). length (flatten tss)) (itself-conditions hasTerms s),
+      terms-append stay more,
+      ap length (withdrawn-terms (conditions s)),
+      left-terms hasTerms [] (conditions s),
+      accepted-within s ok .records,
     )

@@ -1,5 +1,5 @@
 -- Merges by computation: the answer, the sheet that it names, and every byte of the output.
-use Prim.Native.Nat.{ℕ}
+use Prim.Native.Nat.{ℕ, _*_}
 use mathlib.Core.List.{List, [], _∷_, _++_, flatten}
 use mathlib.Core.Path.{_≡_, refl}
 use lib.ListN.{replicate}
@@ -10,7 +10,7 @@ use Rattle.sheet.specs.Conditions.{chain, recordsFrom, termsFrom, countUp, cond
 use Rattle.sheet.specs.Answers.{Answer, refused, answered}
 use Rattle.canonical.specs.Canonical.{termRecord, chainRecords, sheetRecords, headsFrom, canonical}
 use Rattle.repack.specs.Examples.{shuffledC, sheetC, vacantOnly, empty, short, unreached, room}
-use Rattle.merge.specs.Repeats.{equalTerms, equalConditions, repeats, withoutRepeats, anyCondition}
+use Rattle.merge.specs.Repeats.{equalTerms, equalConditions, repeats, withoutRepeats, hasTerms}
 use Rattle.merge.specs.Merge.{whichRefused, whichRefusedWith, mergedConditions, check18, check19, mergeVerdictWith, mergeAnswer, mergeAnswerWith, mergeOut, mergeOutWith}
 
 -- Document 01's sheet C has "same 1 2 or same 1 3" and "apart 1 2". This one has: "apart 1 2"; "same 1 3 or same 1 2"; "same 2 1"; "same 4 5".
@@ -67,25 +67,35 @@ unrepeated =
     1 ∷ 0 ∷ 1 ∷ 0 ∷ 2 ∷ 0 ∷ 0 ∷ 0 ∷
     2 ∷ 0 ∷ 2 ∷ 0 ∷ 1 ∷ 0 ∷ 0 ∷ 0 ∷ []
 
--- Withdrawn conditions before and behind "same 1 2": the later one repeats the first.
+-- Withdrawn conditions before and behind "same 1 2"; and this sheet merged with itself, where "same 1 2" alone is left out.
 abbrev pub withdrawnTwice : List ℕ
 withdrawnTwice =
     2 ∷ 0 ∷ 3 ∷ 0 ∷ 1 ∷ 0 ∷
     0 ∷ 0 ∷ 1 ∷ 0 ∷ 0 ∷ 0 ∷
     1 ∷ 0 ∷ 1 ∷ 0 ∷ 2 ∷ 0 ∷ 0 ∷ 0 ∷ []
 
-abbrev pub withdrawnOnce : List ℕ
-withdrawnOnce =
-    2 ∷ 0 ∷ 2 ∷ 0 ∷ 1 ∷ 0 ∷
-    0 ∷ 0 ∷ 1 ∷ 0 ∷
+abbrev pub withdrawnAgain : List ℕ
+withdrawnAgain =
+    2 ∷ 0 ∷ 5 ∷ 0 ∷ 1 ∷ 0 ∷
+    0 ∷ 0 ∷ 1 ∷ 0 ∷ 0 ∷ 0 ∷ 0 ∷ 0 ∷ 0 ∷ 0 ∷
     1 ∷ 0 ∷ 1 ∷ 0 ∷ 2 ∷ 0 ∷ 0 ∷ 0 ∷ []
 
--- 256 withdrawn conditions; and one.
-abbrev pub allWithdrawn : List ℕ
-allWithdrawn = 0 ∷ 0 ∷ 0 ∷ 1 ∷ 0 ∷ 0 ∷ replicate 512 0
+-- Sheet C behind that one keeps its conditions, 4 and 5 of the result.
+abbrev pub withdrawnC : List ℕ
+withdrawnC =
+    3 ∷ 0 ∷ 5 ∷ 0 ∷ 4 ∷ 0 ∷
+    0 ∷ 0 ∷ 1 ∷ 0 ∷ 0 ∷ 0 ∷ 2 ∷ 0 ∷ 4 ∷ 0 ∷
+    1 ∷ 0 ∷ 1 ∷ 0 ∷ 2 ∷ 0 ∷ 0 ∷ 0 ∷
+    1 ∷ 0 ∷ 1 ∷ 0 ∷ 2 ∷ 0 ∷ 3 ∷ 0 ∷
+    1 ∷ 0 ∷ 1 ∷ 0 ∷ 3 ∷ 0 ∷ 0 ∷ 0 ∷
+    2 ∷ 0 ∷ 1 ∷ 0 ∷ 2 ∷ 0 ∷ 0 ∷ 0 ∷ []
 
-abbrev pub oneWithdrawn : List ℕ
-oneWithdrawn = 0 ∷ 0 ∷ 1 ∷ 0 ∷ 0 ∷ 0 ∷ 0 ∷ 0 ∷ []
+-- So many withdrawn conditions, no more than 255; and 256.
+abbrev pub allWithdrawn : ℕ → List ℕ
+allWithdrawn m = 0 ∷ 0 ∷ m ∷ 0 ∷ 0 ∷ 0 ∷ replicate (2 * m) 0
+
+abbrev pub mostWithdrawn : List ℕ
+mostWithdrawn = 0 ∷ 0 ∷ 0 ∷ 1 ∷ 0 ∷ 0 ∷ replicate 512 0
 
 -- What is answered, the sheet that is refused, and the output afterwards.
 pub data Merging : Type 0 where
@@ -93,7 +103,7 @@ pub data Merging : Type 0 where
 
 -- Of two sheets and so many bytes of output.
 abbrev pub merging : List ℕ → List ℕ → ℕ → Merging
-merging s t n = leaves (mergeAnswer anyCondition s t (room n)) (whichRefused s t) (mergeOut anyCondition s t (room n))
+merging s t n = leaves (mergeAnswer hasTerms s t (room n)) (whichRefused s t) (mergeOut hasTerms s t (room n))
 
 pub mergings :
     -- the records of a sheet may stand in any order; no output; one byte short; just enough; two bytes more, which stay
@@ -103,13 +113,18 @@ pub mergings :
     ∷ merging sheetC sheetF 74
     -- in the other order
     ∷ merging sheetF shuffledC 72
-    -- a sheet with itself: packed, and without its repeats
+    -- a sheet with itself: packed, and without its repeats; its withdrawn conditions come once more
     ∷ merging shuffledC shuffledC 34
     ∷ merging repeated repeated 26
-    ∷ merging withdrawnTwice withdrawnTwice 18
+    ∷ merging withdrawnTwice withdrawnTwice 24
+    ∷ merging withdrawnTwice withdrawnTwice 23
     ∷ merging empty empty 6
-    -- 512 conditions come in, and one is left
-    ∷ merging allWithdrawn allWithdrawn 8
+    -- withdrawn conditions keep their places
+    ∷ merging withdrawnTwice shuffledC 49
+    -- 256 withdrawn conditions, 257, and 512
+    ∷ merging (allWithdrawn 255) (allWithdrawn 1) 518
+    ∷ merging (allWithdrawn 1) mostWithdrawn 999
+    ∷ merging mostWithdrawn mostWithdrawn 0
     -- with no conditions, and vacant records
     ∷ merging vacantOnly repeated 28
     ∷ merging repeated vacantOnly 25
@@ -126,9 +141,13 @@ pub mergings :
     ∷ leaves (answered 72 0 0) 0 mergedFC
     ∷ leaves (answered 34 0 0) 0 sheetC
     ∷ leaves (answered 26 0 0) 0 unrepeated
-    ∷ leaves (answered 18 0 0) 0 withdrawnOnce
+    ∷ leaves (answered 24 0 0) 0 withdrawnAgain
+    ∷ leaves (refused 19 24) 0 (room 23)
     ∷ leaves (answered 6 0 0) 0 empty
-    ∷ leaves (answered 8 0 0) 0 oneWithdrawn
+    ∷ leaves (answered 48 0 0) 0 (withdrawnC ++ room 1)
+    ∷ leaves (answered 518 0 0) 0 mostWithdrawn
+    ∷ leaves (refused 18 2) 0 (room 999)
+    ∷ leaves (refused 18 2) 0 []
     ∷ leaves (answered 26 0 0) 0 (unrepeated ++ room 2)
     ∷ leaves (refused 19 26) 0 (room 25)
     ∷ leaves (refused 1 0) 1 []

@@ -14,7 +14,7 @@ use Rattle.sheet.specs.Conditions.{Term, signOf, firstLot, secondLot, termsFrom
 use Rattle.merge.specs.declared.chains.Sought.{Sought}
 use Rattle.merge.specs.declared.kept.Kept.{Kept}
 use Rattle.merge.specs.declared.kept.Both.{Both}
-use Rattle.merge.specs.Repeats.{withoutRepeats, anyCondition}
+use Rattle.merge.specs.Repeats.{repeats, withoutRepeats, hasTerms}
 use Rattle.merge.specs.Merge.{mergedConditions}
 
 -- ---- terms
@@ -69,18 +69,22 @@ pub record EntryOf (s : List ℕ) (entry : ℕ) : Type 0 where
 abbrev pub keptOf : List ℕ → List ℕ → List (List Term)
 keptOf s entries = map (λ entry. conditionAt s (numberIn entry)) entries
 
+-- A condition is left out behind these.
+abbrev pub leavesOut : List Term → List (List Term) → Bool
+leavesOut ts earlier = hasTerms ts && repeats ts earlier
+
 -- From one place up to another, there are entries of a sheet.
 pub record EntriesOf (s : List ℕ) (from upto : ℕ) (entries : List ℕ) : Type 0 where
   pub order : from ≤ upto
   pub room : upto ≤ length entries
   pub each : All (EntryOf s) (slice from upto entries)
 
--- From `from` on, behind the entries of s, there are those of t's conditions that stay: they repeat neither those of s nor one another.
+-- From `from` on, behind the entries of s, there are those of t's conditions that stay.
 pub record Gathered (s : List ℕ) (from : ℕ) (t entries entries′ : List ℕ) (r : Kept) : Type 0 where
   pub before : take from entries′ ≡ take from entries
   pub entered : EntriesOf t from (r .upto) entries′
   pub few : r .upto ≤ from + conditionCount t
-  pub stay : keptOf t (slice from (r .upto) entries′) ≡ withoutRepeats anyCondition (keptOf s (slice 0 from entries)) (conditions t)
+  pub stay : keptOf t (slice from (r .upto) entries′) ≡ withoutRepeats hasTerms (keptOf s (slice 0 from entries)) (conditions t)
   pub terms : r .terms ≡ length (flatten (keptOf t (slice from (r .upto) entries′)))
   pub short : r .terms ≤ length (flatten (conditions t))
 
@@ -89,6 +93,6 @@ pub record Entered (s t entries : List ℕ) (r : Both) : Type 0 where
   pub mine : EntriesOf s 0 (r .first) entries
   pub others : EntriesOf t (r .first) (r .upto) entries
   pub few : r .upto ≤ conditionCount s + conditionCount t
-  pub result : keptOf s (slice 0 (r .first) entries) ++ keptOf t (slice (r .first) (r .upto) entries) ≡ mergedConditions anyCondition s t
-  pub conditions′ : r .upto ≡ length (mergedConditions anyCondition s t)
-  pub terms : r .terms ≡ length (flatten (mergedConditions anyCondition s t))
+  pub result : keptOf s (slice 0 (r .first) entries) ++ keptOf t (slice (r .first) (r .upto) entries) ≡ mergedConditions hasTerms s t
+  pub conditions′ : r .upto ≡ length (mergedConditions hasTerms s t)
+  pub terms : r .terms ≡ length (flatten (mergedConditions hasTerms s t))

@@ -1,4 +1,4 @@
--- Conditions that repeat an earlier one (document 02, job 4).
+-- Conditions that repeat an earlier one (document 02, jobs 4 and 6).
 use mathlib.Core.Bool.{Bool, true, false, cond, _&&_, _||_}
 use mathlib.Core.List.{List, [], _∷_}
 use lib.Dec.{eqb}
@@ -29,6 +29,11 @@ module _ (mayLeaveOut : List Term → Bool) where
       let rest = withoutRepeats (ts ∷ earlier) tss in
       cond (mayLeaveOut ts && repeats ts earlier) rest (ts ∷ rest)
 
--- Which conditions may be left out: any.
+-- Which conditions may be left out (job 6): "keeping a struck place comes first; only conditions with terms can be left out as repeats".
+abbrev pub hasTerms : List Term → Bool
+hasTerms [] = false
+hasTerms (t ∷ ts) = true
+
+-- By job 4 alone any condition might be left out: the merge with this rule is what job 6 is compared with.
 abbrev pub anyCondition : List Term → Bool
 anyCondition ts = true

@@ -1,6 +1,7 @@
 // The conditions that stay, in lent numbers: an entry for each, which has the condition's number and the digest of its terms. The entries of the first sheet
 // stand before those of the second.
 ghost use mathlib.Core.Path.{_≡_};
+ghost use mathlib.Core.List.{_++_};
 ghost use Prim.Native.Nat.{_+_, _*_, _≤_, _<_};
 ghost use lib.ListN.{length};
 ghost use lib.Seq.{slice};
@@ -9,7 +10,7 @@ ghost use Rattle.sheet.specs.Conditions.{termsFrom};
 ghost use Rattle.sheet.specs.Inner.{HasConditions};
 ghost use Rattle.writer.specs.Drafts.{draft, withConditions, RoomForAll};
 ghost use Rattle.merge.specs.Repeats.{repeats};
-ghost use Rattle.merge.specs.Inner.{digestLimit, SoughtIn, numberIn, digestIn, EntriesOf, keptOf, Gathered, Entered};
+ghost use Rattle.merge.specs.Inner.{digestLimit, SoughtIn, numberIn, digestIn, EntriesOf, keptOf, leavesOut, Gathered, Entered};
 use crate::chains;
 use crate::chains::Sought;
 use sheet::Condition;
@@ -85,8 +86,33 @@ fn repeats_between(
     false
 }
 
-// Adds an entry for each condition of the second sheet that repeats neither one of the first sheet that has an entry, up to `from`, nor an earlier one of its
-// own.
+// Whether a condition of the second sheet is left out: it has a term, and repeats one of the first sheet that has an entry, up to `from`, or one of its own that
+// has one.
+fn left_out(
+    first: &[u8],
+    m1: u16,
+    from: usize,
+    second: &[u8],
+    m2: u16,
+    condition: Sought,
+    entries: &[u32],
+    upto: usize,
+) -> bool
+    requires { ⌜ HasConditions (now first) m1 × HasConditions (now second) m2 × SoughtIn (now second) condition
+        × EntriesOf (now first) 0 from (now entries) × EntriesOf (now second) from upto (now entries) ⌝ }
+    ensures { λ r. ⌜ r ≡ leavesOut (termsFrom (now (second .entry)) (condition .head .0))
+        (keptOf (now (first .entry)) (slice 0 from (now (entries .entry))) ++ keptOf (now (second .entry)) (slice from upto (now (entries .entry)))) ⌝ }
+{
+    if condition.head.0 == 0 {
+        return false;
+    }
+    if repeats_between(second, m2, condition, first, m1, entries, 0, from) {
+        return true;
+    }
+    repeats_between(second, m2, condition, second, m2, entries, from, upto)
+}
+
+// Adds an entry for each condition of the second sheet that stays behind those of the first sheet that have one, up to `from`.
 fn gather(first: &[u8], m1: u16, from: usize, second: &[u8], m2: u16, entries: &mut [u32]) -> Kept
     requires { ⌜ HasConditions (now first) m1 × HasConditions (now second) m2
         × EntriesOf (now first) 0 from (now entries) × (from ≤ mostConditions) × (from + m2 ≤ length (now entries)) ⌝ }
@@ -98,10 +124,7 @@ fn gather(first: &[u8], m1: u16, from: usize, second: &[u8], m2: u16, entries: &
     while c < m2 {
         c += 1;
         let condition = chains::condition_at(second, m2, Condition(c));
-        if repeats_between(second, m2, condition, first, m1, entries, 0, from) {
-            continue;
-        }
-        if repeats_between(second, m2, condition, second, m2, entries, from, upto) {
+        if left_out(first, m1, from, second, m2, condition, entries, upto) {
             continue;
         }
         entries[upto] = entry_of(Condition(c), condition.digest);

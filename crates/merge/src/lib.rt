@@ -10,7 +10,7 @@ ghost use Rattle.sheet.specs.Conditions.{conditions};
 ghost use Rattle.sheet.specs.Inner.{HasConditions};
 ghost use Rattle.writer.specs.Answers.{OfWritten};
 ghost use Rattle.repack.specs.Repack.{repacked};
-ghost use Rattle.merge.specs.Repeats.{anyCondition};
+ghost use Rattle.merge.specs.Repeats.{hasTerms};
 ghost use Rattle.merge.specs.Merge.{mergedLots, mergedConditions, whichRefused, mergeAnswer, mergeOut};
 ghost use Rattle.merge.specs.Answers.{mergedAnswer, sheetRefused};
 ghost use Rattle.merge.specs.Promises.{MeetsBoth};
@@ -40,9 +40,9 @@ fn merge_both(
     out: &mut [u8],
 ) -> MergeAnswer
     requires { ⌜ HasConditions (now first) m1 × HasConditions (now second) m2 × (lots ≡ mergedLots (now first) (now second)) ⌝ }
-    ensures answer { λ r. ⌜ mergedAnswer r ≡ mergeAnswer anyCondition (now (first .entry)) (now (second .entry)) (now (out .entry)) ⌝ }
+    ensures answer { λ r. ⌜ mergedAnswer r ≡ mergeAnswer hasTerms (now (first .entry)) (now (second .entry)) (now (out .entry)) ⌝ }
     ensures sheet { λ r. ⌜ sheetRefused r ≡ whichRefused (now (first .entry)) (now (second .entry)) ⌝ }
-    ensures output { λ r. ⌜ now (out .exit) ≡ mergeOut anyCondition (now (first .entry)) (now (second .entry)) (now (out .entry)) ⌝ }
+    ensures output { λ r. ⌜ now (out .exit) ≡ mergeOut hasTerms (now (first .entry)) (now (second .entry)) (now (out .entry)) ⌝ }
 {
     let mut entries = [0u32; kept::ENTRIES];
     let both = kept::gather_both(first, m1, second, m2, &mut entries);
@@ -76,9 +76,9 @@ fn merge_both(
 // Merges a sheet that is accepted with another.
 fn merge_second(first: &[u8], lots: u16, m: u16, second: &[u8], out: &mut [u8]) -> MergeAnswer
     requires { ⌜ HasConditions (now first) m × (lots ≡ lotCount (now first)) ⌝ }
-    ensures answer { λ r. ⌜ mergedAnswer r ≡ mergeAnswer anyCondition (now (first .entry)) (now (second .entry)) (now (out .entry)) ⌝ }
+    ensures answer { λ r. ⌜ mergedAnswer r ≡ mergeAnswer hasTerms (now (first .entry)) (now (second .entry)) (now (out .entry)) ⌝ }
     ensures sheet { λ r. ⌜ sheetRefused r ≡ whichRefused (now (first .entry)) (now (second .entry)) ⌝ }
-    ensures output { λ r. ⌜ now (out .exit) ≡ mergeOut anyCondition (now (first .entry)) (now (second .entry)) (now (out .entry)) ⌝ }
+    ensures output { λ r. ⌜ now (out .exit) ≡ mergeOut hasTerms (now (first .entry)) (now (second .entry)) (now (out .entry)) ⌝ }
 {
     let reading = sheet::read(second);
     match reading {
@@ -94,14 +94,14 @@ fn merge_second(first: &[u8], lots: u16, m: u16, second: &[u8], out: &mut [u8]) 
 // Merges two sheets, for any bytes and any buffer at all; the two may be one slice. What is written is accepted and packed, has the larger number of lots and
 // the conditions of both without repeats, and is met by exactly those who meet both sheets.
 pub fn merge(first: &[u8], second: &[u8], out: &mut [u8]) -> MergeAnswer
-    ensures answer { λ r. ⌜ mergedAnswer r ≡ mergeAnswer anyCondition (now (first .entry)) (now (second .entry)) (now (out .entry)) ⌝ }
+    ensures answer { λ r. ⌜ mergedAnswer r ≡ mergeAnswer hasTerms (now (first .entry)) (now (second .entry)) (now (out .entry)) ⌝ }
     ensures sheet { λ r. ⌜ sheetRefused r ≡ whichRefused (now (first .entry)) (now (second .entry)) ⌝ }
-    ensures output { λ r. ⌜ now (out .exit) ≡ mergeOut anyCondition (now (first .entry)) (now (second .entry)) (now (out .entry)) ⌝ }
+    ensures output { λ r. ⌜ now (out .exit) ≡ mergeOut hasTerms (now (first .entry)) (now (second .entry)) (now (out .entry)) ⌝ }
     ensures accepted { λ r. ⌜ OfWritten (λ w. Accepted w) (mergedAnswer r) (now (out .exit)) ⌝ }
     ensures packed { λ r. ⌜ OfWritten (λ w. repacked w ≡ w) (mergedAnswer r) (now (out .exit)) ⌝ }
     ensures lots { λ r. ⌜ OfWritten (λ w. lotCount w ≡ max (lotCount (now (first .entry))) (lotCount (now (second .entry))))
         (mergedAnswer r) (now (out .exit)) ⌝ }
-    ensures conditions { λ r. ⌜ OfWritten (λ w. conditions w ≡ mergedConditions anyCondition (now (first .entry)) (now (second .entry)))
+    ensures conditions { λ r. ⌜ OfWritten (λ w. conditions w ≡ mergedConditions hasTerms (now (first .entry)) (now (second .entry)))
         (mergedAnswer r) (now (out .exit)) ⌝ }
     ensures meets { λ r. ⌜ OfWritten (λ w. MeetsBoth w (now (first .entry)) (now (second .entry))) (mergedAnswer r) (now (out .exit)) ⌝ }
 {

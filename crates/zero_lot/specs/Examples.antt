@@ -1,6 +1,6 @@
 -- Of a sheet that names lot 0 the lowest lot tells, in every service, by computation: where lots count from 1 it is refused by 5, and a split on lot 0 by 11; and
 -- lot 0's number tells the evaluator's answers apart.
-use Prim.Native.Nat.{ℕ, zero, suc}
+use Prim.Native.Nat.{ℕ}
 use mathlib.Core.List.{List, [], _∷_, flatten}
 use mathlib.Core.Path.{_≡_, refl}
 use lib.ListN.{replicate}
@@ -8,7 +8,7 @@ use Rattle.buffers.specs.Bytes.{number, twoBytes}
 use Rattle.sheet.specs.Format.{headAt, signAt, spareAt, firstLotAt, secondLotAt, nextAt, zeroBytes, vacant}
 use Rattle.sheet.specs.Checks.{firstRefusal, lowestRefusal, check1, check2, check3, check4, wellFormed, check5, member, walkChain, walkChains, walked, check17And6, check7, sheetChecksWith, sheetVerdictWith}
 use Rattle.sheet.specs.Conditions.{chain, recordsFrom, termsFrom, countUp, conditions}
-use Rattle.sheet.specs.Answers.{Answer, refused, answered, readAnswerWith}
+use Rattle.sheet.specs.Answers.{refused, answered, readAnswerWith}
 use Rattle.equality.specs.Meaning.{anyTerm, someTerm}
 use Rattle.equality.specs.Node.{merged, classes, marked, value, taken, groundOrSplit, node}
 use Rattle.equality.specs.Search.{isMet, afterSame, visitNode, visit, sameTerms, allSameTerms, searchTree, nodeCount, metDecisions, groupingBytes}
@@ -16,10 +16,10 @@ use Rattle.equality.specs.Evaluator.{check8, groupingVerdictWith, lowestUnmet, 
 use Rattle.store.specs.Records.{encode, encodeAll, ofKind, decode, recordsOf}
 use Rattle.refutation.specs.Refutation.{groundFails, nearest, walkFrom, check10, walkVerdict, listVerdictWith, checkAnswerWith}
 use Rattle.outcome.specs.Nodes.{records}
-use Rattle.outcome.specs.Outcome.{Outcome, resultOf, searchOutcomeWith}
+use Rattle.outcome.specs.Outcome.{resultOf, searchOutcomeWith}
 use Rattle.canonical.specs.Canonical.{termRecord, chainRecords, sheetRecords, headsFrom, canonical}
 use Rattle.repack.specs.Repack.{check16, repackVerdictWith, repackAnswerWith, repackOutWith}
-use Rattle.merge.specs.Repeats.{equalTerms, equalConditions, repeats, withoutRepeats, anyCondition}
+use Rattle.merge.specs.Repeats.{equalTerms, equalConditions, repeats, withoutRepeats, hasTerms}
 use Rattle.merge.specs.Merge.{whichRefusedWith, mergedConditions, check18, check19, mergeVerdictWith, mergeAnswerWith, mergeOutWith}
 use Rattle.text.specs.Lines.{digits, decimal, line}
 use Rattle.text.specs.Program.{headerLine, recordLine, recordLines, refusedLine, metLine, cannotLine, resultText, printedWith}
@@ -65,9 +65,9 @@ pub answers :
     ∷ checkAnswerWith 1 unnamed onZero ∷ checkAnswerWith 0 unnamed onZero
     ∷ evaluateAnswerWith 0 0 named (7 ∷ []) ∷ evaluateAnswerWith 0 7 named (7 ∷ [])
     ∷ repackAnswerWith 1 named (room 20) ∷ repackAnswerWith 0 named (room 20)
-    ∷ mergeAnswerWith 1 anyCondition unnamed named (room 30) ∷ mergeAnswerWith 0 anyCondition unnamed named (room 30)
+    ∷ mergeAnswerWith 1 hasTerms unnamed named (room 30) ∷ mergeAnswerWith 0 hasTerms unnamed named (room 30)
     -- "same 0 1" is no repeat of "same 1 0", which repeats itself
-    ∷ mergeAnswerWith 0 anyCondition named turned (room 30) ∷ mergeAnswerWith 0 anyCondition named named (room 30)
+    ∷ mergeAnswerWith 0 hasTerms named turned (room 30) ∷ mergeAnswerWith 0 hasTerms named named (room 30)
     ∷ []
     ≡ refused 5 2 ∷ answered 1 1 3 ∷ answered 1 1 3 ∷ answered 1 1 3
     ∷ refused 11 1 ∷ answered 0 0 0
@@ -83,7 +83,7 @@ answers = refl
 pub outputs :
     (whichRefusedWith 1 unnamed named ∷ whichRefusedWith 0 unnamed named ∷ [] ≡ 2 ∷ 0 ∷ [])
     × (repackOutWith 1 named (room 17) ∷ repackOutWith 0 named (room 17)
-    ∷ mergeOutWith 1 anyCondition unnamed named (room 27) ∷ mergeOutWith 0 anyCondition unnamed named (room 27)
+    ∷ mergeOutWith 1 hasTerms unnamed named (room 27) ∷ mergeOutWith 0 hasTerms unnamed named (room 27)
     ∷ []
     ≡ room 17
     ∷ (1 ∷ 0 ∷ 1 ∷ 0 ∷ 1 ∷ 0 ∷ 1 ∷ 0 ∷ 1 ∷ 0 ∷ 1 ∷ 0 ∷ 0 ∷ 0 ∷ 0 ∷ 0 ∷ 170 ∷ [])

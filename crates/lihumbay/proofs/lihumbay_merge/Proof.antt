@@ -7,7 +7,7 @@ use Rattle.sheet.specs.Format.{lotCount}
 use Rattle.sheet.specs.Checks.{Accepted}
 use Rattle.sheet.specs.Conditions.{conditions}
 use Rattle.repack.specs.Repack.{repacked}
-use Rattle.merge.specs.Repeats.{anyCondition}
+use Rattle.merge.specs.Repeats.{hasTerms}
 use Rattle.merge.specs.Merge.{mergedConditions}
 use Rattle.merge.specs.Answers.{mergedAnswer, sheetRefused}
 use Rattle.merge.specs.Promises.{MeetsBoth}
@@ -47,7 +47,7 @@ returns c =
             (
               zero-merged (λ (w : List ℕ). lotCount w ≡ max (lotCount s) (lotCount t)) out′ a sheet first (promised .1 .1 .0),
               (
-                zero-merged (λ (w : List ℕ). conditions w ≡ mergedConditions anyCondition s t) out′ a sheet first (promised .1 .1 .1 .0),
+                zero-merged (λ (w : List ℕ). conditions w ≡ mergedConditions hasTerms s t) out′ a sheet first (promised .1 .1 .1 .0),
                 zero-merged (λ (w : List ℕ). MeetsBoth w s t) out′ a sheet first (promised .1 .1 .1 .1),
               ),
             ),

@@ -5,7 +5,7 @@ use Rattle.sheet.specs.declared.Verdict.the-variants.{Refuses}
 use Rattle.sheet.specs.Answers.{readingAnswer}
 use Rattle.sheet.proofs.Readings.{ReadAs, read-accepts, read-refuses}
 use Rattle.merge.specs.declared.MergeAnswer.the-variants.{FirstRefused}
-use Rattle.merge.specs.Repeats.{anyCondition}
+use Rattle.merge.specs.Repeats.{hasTerms}
 use Rattle.merge.proofs.Answering.{which-first, first-refused}
 use Rattle.merge.proofs.Entry.{equations, ensured}
 use Rattle.merge.proofs.merge.Statement.{statement}
@@ -37,7 +37,7 @@ returns c =
     let read = c .before .before .before in
     let refuses = read-refuses _ _ _ (ap readingAnswer (sym (c .before .reading .given .1)) ∙ read .read .ensures) in
     ensured _ _ _ (FirstRefused _ _) _
-    (equations _ _ _ (Refuses _ _) (first-refused anyCondition _ _ _ _ _ refuses) (FirstRefused _ _) _ refl (sym (which-first _ _ _ _ refuses)) refl)
+    (equations _ _ _ (Refuses _ _) (first-refused hasTerms _ _ _ _ _ refuses) (FirstRefused _ _) _ refl (sym (which-first _ _ _ _ refuses)) refl)
 
 same-length : tie.Need-same-length
 same-length c = search needs

@@ -11,7 +11,7 @@ use Rattle.sheet.specs.Answers.{refused, answered}
 use Rattle.sheet.proofs.Accepted.{sound}
 use Rattle.writer.specs.Drafts.{Draft, withConditions}
 use Rattle.merge.specs.declared.MergeAnswer.the-variants.{Written, Refused}
-use Rattle.merge.specs.Repeats.{anyCondition}
+use Rattle.merge.specs.Repeats.{hasTerms}
 use Rattle.merge.specs.Merge.{mergedConditions, mergedLength, mergeVerdict}
 use Rattle.merge.specs.Inner.{Entered}
 use Rattle.merge.proofs.Counts.{needed, room-mine, room-others, counts-whole}
@@ -46,7 +46,7 @@ cast-conditions c =
 
 -- Of neither sheet: nothing is written.
 refuses : (c : tie.After-gather-both) (check place told : ℕ)
-    → mergeVerdict anyCondition (begun c .args .first .now) (begun c .args .second .now) (begun c .args .out .now) ≡ Refuses check place → told ≡ place
+    → mergeVerdict hasTerms (begun c .args .first .now) (begun c .args .second .now) (begun c .args .out .now) ≡ Refuses check place → told ≡ place
     → Equations (begun c .args .first .now) (begun c .args .second .now) (begun c .args .out .now) (Refused check told) (begun c .args .out .now)
 refuses c check place told verdict e =
     let start = begun c in
@@ -56,17 +56,17 @@ returns : tie.Need-returns
 returns c =
     let gathered = c .before .before .before in
     let start = begun gathered in
-    refuses gathered 18 2 2 (many-conditions anyCondition _ _ _ (start .pre .0 .accepted) (start .pre .1 .accepted) (omega (arith, c .if1 .taken, entered gathered .conditions′))) refl
+    refuses gathered 18 2 2 (many-conditions hasTerms _ _ _ (start .pre .0 .accepted) (start .pre .1 .accepted) (omega (arith, c .if1 .taken, entered gathered .conditions′))) refl
 
 -- Past the first test the conditions are few enough.
-few : (c : tie.Else1) → length (mergedConditions anyCondition (begun (c .before .before .before) .args .first .now) (begun (c .before .before .before) .args .second .now)) ≤ mostConditions
+few : (c : tie.Else1) → length (mergedConditions hasTerms (begun (c .before .before .before) .args .first .now) (begun (c .before .before .before) .args .second .now)) ≤ mostConditions
 few c = omega (arith, c .if1 .left, entered (c .before .before .before) .conditions′)
 
 returns-2 : tie.Need-returns-2
 returns-2 c =
     let gathered = c .before .before .before .before in
     let start = begun gathered in
-    refuses gathered 18 3 3 (many-terms anyCondition _ _ _ (start .pre .0 .accepted) (start .pre .1 .accepted) (few (c .before)) (omega (arith, c .if2 .taken, entered gathered .terms))) refl
+    refuses gathered 18 3 3 (many-terms hasTerms _ _ _ (start .pre .0 .accepted) (start .pre .1 .accepted) (few (c .before)) (omega (arith, c .if2 .taken, entered gathered .terms))) refl
 
 length-of-requires : tie.Need-length-of-requires
 length-of-requires c κs = search needs
@@ -75,11 +75,11 @@ length-of-requires c κs = search needs
 abbrev past : tie.Else2 → tie.After-gather-both
 past c = c .before .before .before .before
 
-short : (c : tie.Else2) → length (flatten (mergedConditions anyCondition (begun (past c) .args .first .now) (begun (past c) .args .second .now))) ≤ mostRecords
+short : (c : tie.Else2) → length (flatten (mergedConditions hasTerms (begun (past c) .args .first .now) (begun (past c) .args .second .now))) ≤ mostRecords
 short c = omega (arith, c .if2 .left, entered (past c) .terms)
 
 -- The length that is computed is the one needed.
-length-told : (c : tie.After-length-of) → c .length-of .result ≡ mergedLength anyCondition (begun (past (c .before)) .args .first .now) (begun (past (c .before)) .args .second .now)
+length-told : (c : tie.After-length-of) → c .length-of .result ≡ mergedLength hasTerms (begun (past (c .before)) .args .first .now) (begun (past (c .before)) .args .second .now)
 length-told c = c .length-of .ensures ∙ needed (entered (past (c .before)))
 
 cast-if3 : tie.Need-cast-if3
@@ -91,7 +91,7 @@ returns-3 c =
     let gathered = past (at .before) in
     let start = begun gathered in
     refuses gathered 19 _ (at .length-of .result)
-    (output-short anyCondition _ _ _ (start .pre .0 .accepted) (start .pre .1 .accepted) (few (at .before .before)) (short (at .before)) (omega (arith, length-told at, c .if3 .taken)))
+    (output-short hasTerms _ _ _ (start .pre .0 .accepted) (start .pre .1 .accepted) (few (at .before .before)) (short (at .before)) (omega (arith, length-told at, c .if3 .taken)))
     (length-told at)
 
 -- ---- the merged sheet
@@ -153,7 +153,7 @@ returns-4 c =
     let ok = start .pre .0 .accepted in
     let ok′ = start .pre .1 .accepted in
     let stored = added .add2 .ensures ∙ ap (withConditions _) (half .add .ensures ∙ ap (withConditions _) (begin .begin .ensures)) in
-    equations _ _ out Passes (all-pass anyCondition _ _ out ok ok′ (few (at .before .before)) (short (at .before)) (omega (arith, needed l, fits tested)))
+    equations _ _ out Passes (all-pass hasTerms _ _ out ok ok′ (few (at .before .before)) (short (at .before)) (omega (arith, needed l, fits tested)))
     (Written (at .length-of .result)) _ (ap (λ (n : ℕ). answered n 0 0) (length-told at)) (sym (which-neither _ _ ok ok′))
     (ap (λ (d : Draft). d .bytes) stored ∙ counts-whole l out _ (terms-few tested) (fits tested) (start .pre .2))
 

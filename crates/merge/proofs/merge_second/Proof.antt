@@ -6,7 +6,7 @@ use Rattle.sheet.specs.declared.Verdict.the-variants.{Refuses}
 use Rattle.sheet.specs.Answers.{readingAnswer}
 use Rattle.sheet.proofs.Readings.{ReadAs, read-accepts, read-refuses}
 use Rattle.merge.specs.declared.MergeAnswer.the-variants.{SecondRefused}
-use Rattle.merge.specs.Repeats.{anyCondition}
+use Rattle.merge.specs.Repeats.{hasTerms}
 use Rattle.merge.specs.Merge.{mergedLots}
 use Rattle.merge.proofs.Answering.{which-second, second-refused}
 use Rattle.merge.proofs.Entry.{equations}
@@ -51,7 +51,7 @@ returns c =
     let start = begun read in
     let ok = start .pre .0 .accepted in
     let refuses = read-refuses _ _ _ (ap readingAnswer (sym (c .before .reading .given .1)) ∙ read .read .ensures) in
-    equations _ _ _ (Refuses _ _) (second-refused anyCondition _ _ _ ok _ _ refuses) (SecondRefused _ _) _ refl (sym (which-second _ _ ok _ _ refuses)) refl
+    equations _ _ _ (Refuses _ _) (second-refused hasTerms _ _ _ ok _ _ refuses) (SecondRefused _ _) _ refl (sym (which-second _ _ ok _ _ refuses)) refl
 
 same-length : tie.Need-same-length
 same-length c = search needs

@@ -1,7 +1,6 @@
 -- `merge::kept::gather`: of the conditions passed those that stay are entered; with what stays of the others they come to what stays of all.
 use Prim.Native.Nat.{ℕ, suc, _+_, _-_, _≤_, _<_}
-use mathlib.Core.Bool.{false}
-use mathlib.Core.List.{List}
+use mathlib.Core.List.{List, _++_}
 use mathlib.Core.Path.{_≡_, sym, ap, ap₂, subst, _∙_}
 use native.Mathlib.Numerals.{add-one}
 use native.Mathlib.Omega.{arith}
@@ -13,10 +12,9 @@ use Rattle.sheet.specs.Inner.{OnChain}
 use Rattle.sheet.proofs.Accepted.{sound}
 use Rattle.sheet.proofs.ChainEnds.{head-on}
 use Rattle.sheet.proofs.Conditions.{terms-length}
-use Rattle.merge.specs.Repeats.{repeats}
-use Rattle.merge.specs.Inner.{digestLimit, digestOf, SoughtIn, EntryOf, keptOf}
+use Rattle.merge.specs.Inner.{digestLimit, digestOf, SoughtIn, EntryOf, keptOf, leavesOut}
 use Rattle.merge.proofs.Digesting.{digest-small}
-use Rattle.merge.proofs.Gathering.{earlier, Gathering, gathering-start, first-entries, repeats-first, repeats-own, terms-few, one-more, all-stay}
+use Rattle.merge.proofs.Gathering.{earlier, Gathering, gathering-start, first-entries, gathering-past, terms-few, one-more, all-stay}
 use Rattle.merge.proofs.kept.gather.Statement.{statement}
 use Rattle.merge.proofs.kept.gather.Tie as tie
 
@@ -81,23 +79,25 @@ behind c = let start = begun c in earlier (start .args .first .now) (start .args
 abbrev own : tie.In-loop Inv-loop μ-loop → List (List Term)
 own c = keptOf (begun c .args .second .now) (slice (begun c .args .from) (c .before .loop .upto) (c .before .loop .entries))
 
--- ---- among the conditions of the first sheet
+-- ---- it is left out
 
-repeats-between-requires : tie.Need-repeats-between-requires Inv-loop μ-loop
-repeats-between-requires c κs =
+left-out-requires : tie.Need-left-out-requires Inv-loop μ-loop
+left-out-requires c κs =
     let at = c .before in
     let turn = at .before in
     let start = begun turn in
-    (start .pre .1, sought at, start .pre .0, first-entries _ _ _ _ (turn .before .loop .inv) (start .pre .2))
+    let l = turn .before .loop .inv in
+    (start .pre .0, start .pre .1, sought at, first-entries _ _ _ _ l (start .pre .2), l .entered)
 
-abbrev turnAt : tie.After-repeats-between Inv-loop μ-loop → tie.In-loop Inv-loop μ-loop
+abbrev turnAt : tie.After-left-out Inv-loop μ-loop → tie.In-loop Inv-loop μ-loop
 turnAt c = c .before .before .before
 
-told-first : (c : tie.After-repeats-between Inv-loop μ-loop) → c .repeats-between .result ≡ repeats (looked (turnAt c)) (behind (turnAt c))
-told-first c =
+-- What `left_out` answers is asked of the condition behind those kept so far.
+told : (c : tie.After-left-out Inv-loop μ-loop) → c .left-out .result ≡ leavesOut (looked (turnAt c)) (behind (turnAt c) ++ own (turnAt c))
+told c =
     let turn = turnAt c in
-    c .repeats-between .ensures
-    ∙ ap₂ (λ (ts : List Term) (es : List ℕ). repeats ts (keptOf (begun turn .args .first .now) es)) (terms-of (c .before .before)) (turn .before .loop .inv .before)
+    c .left-out .ensures
+    ∙ ap₂ (λ (ts : List Term) (es : List ℕ). leavesOut ts (keptOf (begun turn .args .first .now) es ++ own turn)) (terms-of (c .before .before)) (turn .before .loop .inv .before)
 
 loop-less : tie.Need-loop-less Inv-loop μ-loop
 loop-less c = omega (arith, turnAt (c .before) .loop-test .taken)
@@ -105,43 +105,15 @@ loop-less c = omega (arith, turnAt (c .before) .loop-test .taken)
 loop-again : tie.Need-loop-again Inv-loop μ-loop
 loop-again c =
     let turn = turnAt (c .before) in
-    rw (add-one (turn .before .loop .c)) (repeats-first _ _ _ _ (turn .before .loop .inv) (below turn) (sym (told-first (c .before)) ∙ c .if1 .taken))
-
--- ---- among its own
-
-repeats-between-requires-2 : tie.Need-repeats-between-requires-2 Inv-loop μ-loop
-repeats-between-requires-2 c κs =
-    let at = c .before .before .before .before in
-    let turn = at .before in
-    let start = begun turn in
-    (start .pre .1, sought at, start .pre .1, turn .before .loop .inv .entered)
-
-abbrev firstAsked : tie.After-repeats-between2 Inv-loop μ-loop → tie.After-repeats-between Inv-loop μ-loop
-firstAsked c = c .before .before .before
-
-new-first : (c : tie.After-repeats-between2 Inv-loop μ-loop) → repeats (looked (turnAt (firstAsked c))) (behind (turnAt (firstAsked c))) ≡ false
-new-first c = sym (told-first (firstAsked c)) ∙ c .before .before .if1 .left
-
-told-own : (c : tie.After-repeats-between2 Inv-loop μ-loop) → c .repeats-between2 .result ≡ repeats (looked (turnAt (firstAsked c))) (own (turnAt (firstAsked c)))
-told-own c =
-    let turn = turnAt (firstAsked c) in
-    c .repeats-between2 .ensures ∙ ap (λ (ts : List Term). repeats ts (own turn)) (terms-of (firstAsked c .before .before))
-
-loop-less-2 : tie.Need-loop-less-2 Inv-loop μ-loop
-loop-less-2 c = omega (arith, turnAt (firstAsked (c .before)) .loop-test .taken)
-
-loop-again-2 : tie.Need-loop-again-2 Inv-loop μ-loop
-loop-again-2 c =
-    let turn = turnAt (firstAsked (c .before)) in
-    rw (add-one (turn .before .loop .c)) (repeats-own _ _ _ _ (turn .before .loop .inv) (below turn) (new-first (c .before)) (sym (told-own (c .before)) ∙ c .if2 .taken))
+    rw (add-one (turn .before .loop .c)) (gathering-past _ _ _ _ (turn .before .loop .inv) (below turn) (sym (told (c .before)) ∙ c .if1 .taken))
 
 -- ---- it stays
 
-abbrev turnNew : tie.Else2 Inv-loop μ-loop → tie.In-loop Inv-loop μ-loop
-turnNew c = turnAt (firstAsked (c .before))
+abbrev turnNew : tie.Else1 Inv-loop μ-loop → tie.In-loop Inv-loop μ-loop
+turnNew c = turnAt (c .before)
 
-abbrev soughtNew : tie.Else2 Inv-loop μ-loop → tie.After-condition-at Inv-loop μ-loop
-soughtNew c = firstAsked (c .before) .before .before
+abbrev soughtNew : tie.Else1 Inv-loop μ-loop → tie.After-condition-at Inv-loop μ-loop
+soughtNew c = c .before .before .before
 
 entry-of-requires : tie.Need-entry-of-requires Inv-loop μ-loop
 entry-of-requires c κs =
@@ -177,11 +149,11 @@ add-terms c =
     let ok = begun turn .pre .1 .accepted in
     omega (arith, counted (soughtNew new), terms-few _ _ _ _ (turn .before .loop .inv) (below turn), terms-length t ok, sound t ok .header .records)
 
-loop-less-3 : tie.Need-loop-less-3 Inv-loop μ-loop
-loop-less-3 c = omega (arith, turnNew (c .before .before) .loop-test .taken)
+loop-less-2 : tie.Need-loop-less-2 Inv-loop μ-loop
+loop-less-2 c = omega (arith, turnNew (c .before .before) .loop-test .taken)
 
-loop-again-3 : tie.Need-loop-again-3 Inv-loop μ-loop
-loop-again-3 c =
+loop-again-2 : tie.Need-loop-again-2 Inv-loop μ-loop
+loop-again-2 c =
     let entered = c .before in
     let new = entered .before in
     let turn = turnNew new in
@@ -195,7 +167,7 @@ loop-again-3 c =
       digest = entered .entry-of .ensures .1 ∙ soughtNew new .condition-at .ensures .digest ∙ ap (λ (i : ℕ). digestOf (conditionAt t i)) (sym number);
     } in
     rw (add-one (l .c), add-one (l .upto))
-    (one-more _ _ _ _ (l .inv) (below turn) (new-first (new .before)) (sym (told-own (new .before)) ∙ new .if2 .left) (room turn) (entered .entry-of .result) one (number ∙ add-one (l .c))
+    (one-more _ _ _ _ (l .inv) (below turn) (sym (told (new .before)) ∙ new .if1 .left) (room turn) (entered .entry-of .result) one (number ∙ add-one (l .c))
     (soughtNew new .condition-at .result .terms) (counted (soughtNew new)))
 
 -- ---- past the last condition
@@ -225,18 +197,15 @@ gather-spec =
     loop-holds
     add-c
     condition-at-requires
-    repeats-between-requires
+    left-out-requires
     loop-less
     loop-again
-    repeats-between-requires-2
-    loop-less-2
-    loop-again-2
     entry-of-requires
     mul-entries
     slice-write-entries
     add-upto
     add-terms
-    loop-less-3
-    loop-again-3
+    loop-less-2
+    loop-again-2
     same-length
     returns)
