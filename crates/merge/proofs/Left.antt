@@ -191,7 +191,7 @@ module _ (mayLeaveOut : List Term → Bool) where
 -- ---- conditions that are all earlier ones
 
 -- Each of a list is one of them.
-each-repeats : (tss : List (List Term)) → All (λ (ts : List Term). repeats ts tss ≡ true) tss
+pub each-repeats : (tss : List (List Term)) → All (λ (ts : List Term). repeats ts tss ≡ true) tss
 unfolding repeats
 each-repeats [] = tt
 each-repeats (ts ∷ tss) =

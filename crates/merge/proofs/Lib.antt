@@ -1,6 +1,7 @@
 pub mod Equal
 pub mod Left
 pub mod Merged
+pub mod Places
 mod Fields
 mod Comparing
 mod Digesting

@@ -1,5 +1,6 @@
 pub mod Repeats
 pub mod Merge
+pub mod Places
 pub mod Answers
 pub mod Promises
 pub mod Examples

@@ -1,4 +1,4 @@
-// Merging: two accepted sheets become one, which has the conditions of the first and then those of the second, without repeats.
+// Merging: two accepted sheets become one, which has the conditions of the first and then those of the second, without repeats; a withdrawn condition is none.
 mod chains; // chains.rt: digests of chains, and whether two have the same terms
 mod kept; // kept.rt: the conditions that stay
 
@@ -13,7 +13,7 @@ ghost use Rattle.repack.specs.Repack.{repacked};
 ghost use Rattle.merge.specs.Repeats.{hasTerms};
 ghost use Rattle.merge.specs.Merge.{mergedLots, mergedConditions, whichRefused, mergeAnswer, mergeOut};
 ghost use Rattle.merge.specs.Answers.{mergedAnswer, sheetRefused};
-ghost use Rattle.merge.specs.Promises.{MeetsBoth};
+ghost use Rattle.merge.specs.Promises.{MeetsBoth, PlacesKept};
 use sheet::Reading;
 
 // What a merge answers: the length that it wrote, or a refusal, on which nothing is written: of the first sheet, of the second, or of both together.
@@ -92,7 +92,7 @@ fn merge_second(first: &[u8], lots: u16, m: u16, second: &[u8], out: &mut [u8]) 
 }
 
 // Merges two sheets, for any bytes and any buffer at all; the two may be one slice. What is written is accepted and packed, has the larger number of lots and
-// the conditions of both without repeats, and is met by exactly those who meet both sheets.
+// the conditions of both without repeats, and is met by exactly those who meet both sheets. Withdrawn conditions keep their places.
 pub fn merge(first: &[u8], second: &[u8], out: &mut [u8]) -> MergeAnswer
     ensures answer { λ r. ⌜ mergedAnswer r ≡ mergeAnswer hasTerms (now (first .entry)) (now (second .entry)) (now (out .entry)) ⌝ }
     ensures sheet { λ r. ⌜ sheetRefused r ≡ whichRefused (now (first .entry)) (now (second .entry)) ⌝ }
@@ -104,6 +104,7 @@ pub fn merge(first: &[u8], second: &[u8], out: &mut [u8]) -> MergeAnswer
     ensures conditions { λ r. ⌜ OfWritten (λ w. conditions w ≡ mergedConditions hasTerms (now (first .entry)) (now (second .entry)))
         (mergedAnswer r) (now (out .exit)) ⌝ }
     ensures meets { λ r. ⌜ OfWritten (λ w. MeetsBoth w (now (first .entry)) (now (second .entry))) (mergedAnswer r) (now (out .exit)) ⌝ }
+    ensures places { λ r. ⌜ OfWritten (λ w. PlacesKept w (now (first .entry)) (now (second .entry))) (mergedAnswer r) (now (out .exit)) ⌝ }
 {
     let reading = sheet::read(first);
     match reading {
