@@ -6,12 +6,13 @@ use mathlib.Core.Logic.{_↔_, _≢_}
 use mathlib.Core.Path.{_≡_, refl, ap, ap₂, _∙_}
 use native.Mathlib.Nat.{max-le, le-max-left, le-max-right}
 use native.Mathlib.Omega.{arith}
-use lib.ListN.{length, getD}
+use lib.ListN.{length, getD, length-append}
 use Rattle.buffers.specs.Lists.{All}
 use Rattle.buffers.proofs.Lists.{all-map, all-both, all-first, all-second}
-use Rattle.sheet.specs.Format.{mostConditions, mostRecords, lotCount}
+use Rattle.sheet.specs.Format.{mostConditions, mostRecords, lotCount, conditionCount}
 use Rattle.sheet.specs.Checks.{Accepted}
 use Rattle.sheet.specs.Conditions.{Term, TermIn, conditions}
+use Rattle.sheet.proofs.Conditions.{conditions-length}
 use Rattle.canonical.specs.Canonical.{canonical, Within}
 use Rattle.canonical.proofs.Limits.{accepted-within}
 use Rattle.canonical.proofs.Canonical.{canonical-length, canonical-lots, canonical-accepted, canonical-conditions}
@@ -20,7 +21,7 @@ use Rattle.repack.specs.Repack.{repacked}
 use Rattle.writer.proofs.Packing.{terms-append}
 use Rattle.merge.specs.Repeats.{withoutRepeats, hasTerms}
 use Rattle.merge.specs.Merge.{mergedLots, mergedConditions, merged, mergedLength}
-use Rattle.merge.proofs.Left.{left-append, left-part, left-terms, left-all, all-left, left-unrepeated, unrepeated-at, left-every, mustStay, left-known}
+use Rattle.merge.proofs.Left.{left-append, left-part, left-few, left-terms, left-all, all-left, left-unrepeated, unrepeated-at, left-every, mustStay, left-known}
 
 -- Lots of fewer are lots of more.
 more-lots : (n m : ℕ) → n ≤ m → (tss : List (List Term)) → All (All (TermIn n)) tss → All (All (TermIn m)) tss
@@ -127,7 +128,7 @@ withdrawn-terms [] = refl
 withdrawn-terms ([] ∷ tss) = withdrawn-terms tss
 withdrawn-terms ((t ∷ ts) ∷ tss) = withdrawn-terms tss
 
--- So 18 never refuses it for its terms.
+-- So 18 never refuses it for its terms;
 pub itself-terms : (s : List ℕ) → Accepted s → length (flatten (mergedConditions hasTerms s s)) ≤ mostRecords
 itself-terms s ok =
     let stay = withoutRepeats hasTerms [] (conditions s) in
@@ -139,4 +140,15 @@ itself-terms s ok =
       ap length (withdrawn-terms (conditions s)),
       left-terms hasTerms [] (conditions s),
       accepted-within s ok .records,
+    )
+
+-- nor for its conditions, where these and its withdrawn ones once more are few enough.
+pub itself-few : (s : List ℕ) → length (mergedConditions hasTerms s s) ≤ conditionCount s + length (mustStay hasTerms (conditions s))
+itself-few s =
+    omega (
+      arith,
+      ap length (itself-conditions hasTerms s),
+      length-append (withoutRepeats hasTerms [] (conditions s)) (mustStay hasTerms (conditions s)),
+      left-few hasTerms [] (conditions s),
+      conditions-length s,
     )

@@ -4,8 +4,8 @@ use mathlib.Core.Bool.{Bool, true, false, cond, _&&_, false≢true}
 use mathlib.Core.List.{List, [], _∷_, _++_}
 use mathlib.Core.Path.{_≡_, refl, sym, ap, subst, _∙_}
 use native.Mathlib.Omega.{arith}
-use lib.ListN.{length, getD, take, drop, length-append, take-append-drop}
-use lib.Seq.{take-suc, drop-cons, getD-append-seam}
+use lib.ListN.{length, getD, take, drop, length-append, take-append-drop, List·getD-append}
+use lib.Seq.{take-suc, drop-cons, take-append-le, getD-append-seam}
 use Rattle.sheet.specs.Conditions.{Term, conditions}
 use Rattle.merge.specs.Repeats.{repeats, withoutRepeats, hasTerms}
 use Rattle.merge.specs.Merge.{mergedConditions}
@@ -83,6 +83,12 @@ module _ (mayLeaveOut : List Term → Bool) where
               there = omega (arith, length-append front (getD tss i [] ∷ back));
               this = getD-append-seam front (getD tss i []) back [] ∙ stands .this;
             }
+
+    -- What is left out before a place asks only for the conditions before it.
+    pub before-front : (uss : List (List Term)) (i : ℕ) → i ≤ length tss → leftOutBefore mayLeaveOut (tss ++ uss) i ≡ leftOutBefore mayLeaveOut tss i
+    unfolding leftOutBefore leftOut
+    before-front uss zero h = refl
+    before-front uss (suc i) h = rw (before-front uss i (omega arith), List·getD-append tss uss [] i h, take-append-le i tss uss (omega arith))
 
 -- ---- where only conditions with terms may be left out
 

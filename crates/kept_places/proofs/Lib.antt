@@ -1,0 +1,5 @@
+mod Beside
+mod Counting
+mod Cases
+pub mod Changes
+pub mod Numbers
