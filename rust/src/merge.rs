@@ -17,10 +17,12 @@ pub enum MergeRefusal {
 }
 
 /// Merges two sheets into one, which is met exactly by what meets both. It has the larger number of lots, and the conditions of the first sheet in their
-/// order, then those of the second in theirs. Lot 0, which no sheet counts, is one lot for both. A condition is left out where it repeats an earlier one, of
-/// either sheet: the same terms in the same order, each with the same sign and the same lots in the same order. Withdrawn conditions, which have no term,
-/// repeat each other too. The bytes are packed, as [`repack`](crate::repack) has them. Check 18 refuses what has more conditions or terms than a sheet can have
-/// once repeats are left out.
+/// order, then those of the second in theirs. Lot 0, which no sheet counts, is one lot for both. The bytes are packed, as [`repack`](crate::repack) has them.
+///
+/// A condition with terms is left out where it repeats an earlier one, of either sheet: the same terms in the same order, each with the same sign and the same
+/// lots in the same order. A withdrawn condition, which has no term, is never left out, also where an earlier one is withdrawn. So a condition that stays has
+/// its number in the two lists one behind the other, less the repeats left out before it. Check 18 refuses what has more conditions or terms than a sheet can
+/// have once repeats are left out; the withdrawn conditions of both sheets count, and each merge with such a sheet adds them once more.
 ///
 /// ```
 /// use lihumbay::{MergeRefusal, Sheet};
@@ -28,6 +30,10 @@ pub enum MergeRefusal {
 /// let second = "apart 1 2\nsame 1 3 | same 1 2\nsame 3 4".parse::<Sheet>()?.to_bytes();
 /// let merged = Sheet::from_bytes(&lihumbay::merge(&first, &second)?)?;
 /// assert_eq!(merged.to_string(), "lots 4\nsame 1 2 | same 1 3\napart 1 2\nsame 1 3 | same 1 2\nsame 3 4\n");
+///
+/// let without = lihumbay::withdraw(&first, 1)?;
+/// let merged = Sheet::from_bytes(&lihumbay::merge(&without, &without)?)?;
+/// assert_eq!(merged.to_string(), "lots 3\nwithdrawn\napart 1 2\nwithdrawn\n");
 ///
 /// let refused = lihumbay::merge(&first, &second[..5]).unwrap_err();
 /// assert!(matches!(refused, MergeRefusal::Second(refusal) if refusal.check.number() == 1));

@@ -303,6 +303,16 @@ fn merging_makes_one_sheet_of_two() {
 }
 
 #[test]
+fn withdrawn_conditions_of_both_sheets_stay_in_the_merged_one() {
+    let (without, whole) = (Scratch::with("without", &WITHOUT_1), Scratch::with("whole", C));
+    let merged = |first: &Scratch, second: &Scratch| run(&["merge", first.path(), second.path()], &[]).out;
+    assert_said(&run(&["decode"], &merged(&without, &without)), 0, "lots 3\nwithdrawn\napart 1 2\nwithdrawn\n");
+    assert_said(&run(&["decode"], &merged(&without, &whole)), 0, "lots 3\nwithdrawn\napart 1 2\nsame 1 2 | same 1 3\n");
+    let again = Scratch::with("again", &merged(&without, &without));
+    assert_said(&run(&["decode"], &merged(&again, &without)), 0, "lots 3\nwithdrawn\napart 1 2\nwithdrawn\nwithdrawn\n");
+}
+
+#[test]
 fn a_refused_merge_names_the_sheet() {
     let (sheet, cut) = (Scratch::with("sheet", C), Scratch::with("cut", &C[..33]));
     let length = "check 3, the sheet's length isn't the one that its header gives";
@@ -336,6 +346,9 @@ fn a_merged_sheet_that_is_too_large_is_refused() {
     for file in [conditions, terms] {
         assert_eq!(Some(run(&["merge", file.path(), file.path()], &[]).out), file.bytes());
     }
+    let withdrawn = Scratch::with("withdrawn", &encoded(&"withdrawn\n".repeat(129)));
+    assert_complained(&run(&["merge", withdrawn.path(), withdrawn.path()], &[]), 2, &format!("{over}: conditions, at most 256"));
+    assert_eq!(run(&["merge", withdrawn.path()], &encoded(&"withdrawn\n".repeat(127))).out, encoded(&"withdrawn\n".repeat(256)));
 }
 
 #[test]

@@ -94,26 +94,57 @@ fn a_withdrawn_condition_has_no_term_and_the_others_have_theirs() {
     }
 }
 
+/// A sheet's bytes with the records at other places and some of its conditions withdrawn, and the sheet that they are of.
+fn some_withdrawn(random: &mut Random) -> (Sheet, Vec<u8>) {
+    let sheet = random.sheet();
+    let count = sheet.conditions().len();
+    let mut bytes = reordered(&sheet.to_bytes(), count, random);
+    for number in 1..=count as u32 {
+        if random.below(3) == 0 {
+            bytes = lihumbay::withdraw(&bytes, number).unwrap();
+        }
+    }
+    (Sheet::from_bytes(&bytes).unwrap(), bytes)
+}
+
 #[test]
-fn a_merged_sheet_has_the_conditions_of_both_once() {
+fn a_merged_sheet_has_the_conditions_of_both_but_for_repeats_with_terms() {
     let mut random = Random(6);
-    let mut left_out = 0;
+    let (mut left_out, mut withdrawn) = (0, 0);
     for _ in 0..2000 {
-        let (first, second) = (random.sheet(), random.sheet());
+        let [(first, first_bytes), (second, second_bytes)] = [(); 2].map(|()| some_withdrawn(&mut random));
         let mut expected = SheetBuilder::new(first.lots().max(second.lots())).unwrap();
         let mut seen: Vec<&[Term]> = Vec::new();
         for condition in first.conditions().iter().chain(second.conditions()) {
-            if seen.contains(&condition.terms()) {
+            let terms = condition.terms();
+            let repeats = seen.contains(&terms);
+            seen.push(terms);
+            if repeats && !condition.is_withdrawn() {
                 left_out += 1;
                 continue;
             }
-            seen.push(condition.terms());
-            expected.condition(condition.terms().iter().copied()).unwrap();
+            withdrawn += usize::from(repeats);
+            expected.condition(terms.iter().copied()).unwrap();
         }
-        let bytes = [&first, &second].map(|sheet| reordered(&sheet.to_bytes(), sheet.conditions().len(), &mut random));
-        assert_eq!(lihumbay::merge(&bytes[0], &bytes[1]), Ok(expected.finish().to_bytes()));
+        assert_eq!(lihumbay::merge(&first_bytes, &second_bytes), Ok(expected.finish().to_bytes()));
     }
-    assert!(left_out > 100, "{left_out} conditions left out");
+    assert!(left_out > 100 && withdrawn > 1000, "{left_out} conditions left out, {withdrawn} withdrawn behind another");
+}
+
+#[test]
+fn a_condition_that_stays_moves_up_by_the_repeats_before_it() {
+    let mut random = Random(7);
+    for _ in 0..2000 {
+        let [(first, first_bytes), (second, second_bytes)] = [(); 2].map(|()| some_withdrawn(&mut random));
+        let merged = Sheet::from_bytes(&lihumbay::merge(&first_bytes, &second_bytes).unwrap()).unwrap();
+        let both: Vec<_> = first.conditions().iter().chain(second.conditions()).collect();
+        let is_left_out = |at: &usize| !both[*at].is_withdrawn() && both[..*at].contains(&both[*at]);
+        let stays = (0..both.len()).filter(|at| !is_left_out(at));
+        for at in stays.clone() {
+            assert_eq!(merged.conditions()[at - (0..at).filter(is_left_out).count()], *both[at]);
+        }
+        assert_eq!(merged.conditions().len(), stays.count());
+    }
 }
 
 #[test]

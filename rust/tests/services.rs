@@ -235,10 +235,21 @@ fn merging_leaves_out_what_repeats_an_earlier_condition() {
 }
 
 #[test]
-fn withdrawn_conditions_repeat_each_other() {
+fn a_withdrawn_condition_is_never_left_out_of_a_merge() {
+    let merged = |first: &[u8], second: &[u8]| Sheet::from_bytes(&lihumbay::merge(first, second).unwrap()).unwrap().to_string();
     let without = lihumbay::withdraw(C_IN_ANOTHER_ORDER, 1).unwrap();
-    assert_eq!(lihumbay::merge(&without, &without), Ok(sheet("lots 3\nwithdrawn\napart 1 2")));
-    assert_eq!(lihumbay::merge(&sheet("same 1 1\nwithdrawn"), &sheet("withdrawn\napart 1 1")), Ok(sheet("same 1 1\nwithdrawn\napart 1 1")));
+    assert_eq!(lihumbay::merge(&without, &without), Ok(sheet("lots 3\nwithdrawn\napart 1 2\nwithdrawn")));
+    let [front, back] = [sheet("same 1 1\nwithdrawn"), sheet("withdrawn\napart 1 1")];
+    assert_eq!(merged(&front, &back), "lots 1\nsame 1 1\nwithdrawn\nwithdrawn\napart 1 1\n");
+    // Within a sheet too, and where there is nothing else.
+    let between = sheet("withdrawn\nsame 1 1\nwithdrawn\nsame 1 1\nwithdrawn");
+    assert_eq!(merged(&between, &sheet("")), "lots 1\nwithdrawn\nsame 1 1\nwithdrawn\nwithdrawn\n");
+    assert_eq!(merged(&sheet("withdrawn\nwithdrawn"), &sheet("withdrawn")), "lots 0\nwithdrawn\nwithdrawn\nwithdrawn\n");
+    // Each merge with a sheet adds its withdrawn conditions once more.
+    let again = lihumbay::merge(&without, &without).unwrap();
+    assert_eq!(merged(&again, &without), "lots 3\nwithdrawn\napart 1 2\nwithdrawn\nwithdrawn\n");
+    assert_eq!(merged(&without, &again), "lots 3\nwithdrawn\napart 1 2\nwithdrawn\nwithdrawn\n");
+    assert_eq!(merged(&sheet(C), &without), "lots 3\nsame 1 2 | same 1 3\napart 1 2\nwithdrawn\n");
 }
 
 #[test]
@@ -251,6 +262,12 @@ fn a_lent_output_is_written_only_as_far_as_the_merged_sheet_goes() {
     assert!(matches!(refused, MergeRefusal::Merged(_)));
     assert_eq!((refused.refusal().check.number(), refused.refusal().place, short), (19, 62, [9; 61]));
     assert_eq!(refused.refusal().check.subject(), Some(Subject::Output));
+    // The head of each withdrawn condition takes its two bytes.
+    let mut out = [9; 11];
+    assert_eq!(lihumbay::merge_into(&sheet("withdrawn"), &sheet("withdrawn"), &mut out), Ok(10));
+    assert_eq!(out, [0, 0, 2, 0, 0, 0, 0, 0, 0, 0, 9]);
+    let refused = lihumbay::merge_into(&sheet("withdrawn"), &sheet("withdrawn"), &mut out[..9]).unwrap_err().refusal();
+    assert_eq!((refused.check.number(), refused.place), (19, 10));
 }
 
 #[test]
@@ -276,12 +293,16 @@ fn most_conditions() -> Vec<u8> {
     builder.finish().to_bytes()
 }
 
-#[test]
-fn the_merged_sheet_has_the_limits_of_a_sheet() {
-    let over = |first: &[u8], second: &[u8]| match lihumbay::merge(first, second) {
+/// The refusal of two sheets that are too large together.
+fn over(first: &[u8], second: &[u8]) -> (u32, u32, Option<Subject>) {
+    match lihumbay::merge(first, second) {
         Err(MergeRefusal::Merged(refusal)) => (refusal.check.number(), refusal.place, refusal.check.subject()),
         other => panic!("{other:?}"),
-    };
+    }
+}
+
+#[test]
+fn the_merged_sheet_has_the_limits_of_a_sheet() {
     // `deepest` has as many terms as a sheet can have, the last of them in its condition "apart 1 1".
     assert_eq!(over(&most_conditions(), &sheet(C)), (18, 2, Some(Subject::Merged)));
     assert_eq!(over(&sheet(C), &deepest()), (18, 3, Some(Subject::Merged)));
@@ -289,6 +310,27 @@ fn the_merged_sheet_has_the_limits_of_a_sheet() {
     assert_eq!(lihumbay::merge(&most_conditions(), &most_conditions()), Ok(most_conditions()));
     assert_eq!(lihumbay::merge(&deepest(), &deepest()), Ok(deepest()));
     assert_eq!(lihumbay::merge(&deepest(), &sheet("apart 1 1")), Ok(deepest()));
+}
+
+#[test]
+fn withdrawn_conditions_of_both_sheets_count_in_the_merged_one() {
+    let withdrawn = |count: usize| sheet(&"withdrawn\n".repeat(count));
+    let too_many = (18, 2, Some(Subject::Merged));
+    assert_eq!(lihumbay::merge(&withdrawn(128), &withdrawn(128)), Ok(withdrawn(256)));
+    assert_eq!(lihumbay::merge(&withdrawn(256), &withdrawn(0)), Ok(withdrawn(256)));
+    assert_eq!(over(&withdrawn(129), &withdrawn(128)), too_many);
+    assert_eq!(over(&withdrawn(1), &withdrawn(256)), too_many);
+    assert_eq!(over(&withdrawn(256), &withdrawn(256)), too_many);
+    // 255 conditions with terms that both sheets have, and one that is withdrawn: with itself the sheet passes the limit.
+    let without = lihumbay::withdraw(&most_conditions(), 256).unwrap();
+    assert_eq!(over(&without, &without), too_many);
+    assert_eq!(lihumbay::merge(&without, &withdrawn(0)).unwrap(), lihumbay::repack(&without).unwrap());
+    // Conditions are counted before terms. `deepest` has two conditions, and with one term more is above the most.
+    assert!(lihumbay::merge(&withdrawn(254), &deepest()).is_ok());
+    assert_eq!(over(&withdrawn(255), &deepest()), too_many);
+    let and_a_term = |count: usize| sheet(&("withdrawn\n".repeat(count) + "same 1 1"));
+    assert_eq!(over(&and_a_term(253), &deepest()), (18, 3, Some(Subject::Merged)));
+    assert_eq!(over(&and_a_term(254), &deepest()), too_many);
 }
 
 /// Lot 0 in either field of a term, and in a class that grows.

@@ -87,8 +87,9 @@ Makes one sheet of two, and writes its bytes to standard output. What meets the
 merged sheet is what meets both. It has the larger number of lots, and the
 conditions of the first sheet in their order, then those of the second. A
 condition with the same terms in the same order as an earlier one, of either
-sheet, is left out; so is a withdrawn one where one came before. The records
-are in order, as `lihumbay repack` writes them.
+sheet, is left out. Withdrawn conditions all stay: a condition moves up only by
+the repeats that are left out before it. The records are in order, as
+`lihumbay repack` writes them.
 
 The first sheet is read before the second, and a refusal says which of the two
 is refused. The merged sheet has at most {MOST_CONDITIONS} conditions and {MOST_TERMS} terms, those
