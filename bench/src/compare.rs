@@ -3,7 +3,7 @@ use crate::jobs::{Buffers, Job, OWN, PAINT, Service, packed_length};
 use crate::random::Random;
 use crate::records::{self, refused};
 use crate::repack::{self, Repack};
-use crate::sheets::{Condition, MOST_BYTES, Sheet, apart, same};
+use crate::sheets::{MOST_BYTES, Sheet, apart, same};
 use crate::{check, evaluations, families, lists, merges, read, terms};
 use std::collections::HashSet;
 use std::ops::RangeInclusive;
@@ -169,7 +169,7 @@ fn sheet_agrees(name: String, sheet: &Sheet, shuffled: Option<u64>) {
 /// A random sheet as it is and with each second to sixth condition withdrawn, so that records are vacant.
 fn random_sheet(name: String, mut sheet: Sheet, seed: u64) {
     sheet_agrees(name.clone(), &sheet, Some(seed));
-    sheet.conditions.iter_mut().step_by(2 + seed as usize % 5).for_each(Condition::withdraw);
+    sheet.withdraw_each(2 + seed as usize % 5);
     for shuffled in [None, Some(seed)] {
         let name = format!("{name}, some conditions withdrawn");
         sheet_agrees(name.clone(), &sheet, shuffled);

@@ -3,7 +3,7 @@ use crate::compare::some_changes;
 use crate::families::from_zero;
 use crate::jobs::{self, Job, PAINT};
 use crate::merge::{self, Merge};
-use crate::pairs::random_pair;
+use crate::pairs::{random_pair, some_withdrawn};
 use crate::read;
 use crate::records::refused;
 use crate::sheets::{MOST_BYTES, Sheet};
@@ -91,18 +91,31 @@ pub fn of_small(name: &str, sheet: &Sheet, other: &Sheet, shuffled: Option<u64>)
     }
 }
 
-/// Random pairs, without lot 0 and with it, and the first sheet of each lent twice. Some pairs are refused by 18, for their conditions or for their terms,
-/// and some have vacant records.
+/// A random pair as it is, with lot 0, and with each second to sixth condition of both sheets withdrawn.
+fn of_seed(seed: u64) -> [(String, [Sheet; 2]); 3] {
+    let name = |what: &str| format!("random pair {seed}{what}");
+    [
+        (name(""), random_pair(seed)),
+        (name(" with lot 0"), random_pair(seed).map(from_zero)),
+        (name(", some conditions withdrawn"), some_withdrawn(random_pair(seed), 2 + seed as usize % 5)),
+    ]
+}
+
+fn withdrawn(sheets: &[Sheet; 2]) -> usize {
+    sheets.iter().flat_map(|sheet| &sheet.conditions).filter(|condition| condition.terms.is_empty()).count()
+}
+
+/// Random pairs, and the first sheet of each lent twice. Some are refused by 18, for their conditions or for their terms, and some are merged, also of those
+/// that have two or more withdrawn conditions; some have vacant records.
 pub fn random_pairs() {
-    let (mut refusals, mut vacant) = (HashSet::new(), false);
-    for (seed, zero) in (1..=100).flat_map(|seed| [(seed, false), (seed, true)]) {
-        let sheets = if zero { random_pair(seed).map(from_zero) } else { random_pair(seed) };
+    let (mut checks, mut refusals, mut vacant) = (HashSet::new(), HashSet::new(), false);
+    for (seed, (name, sheets)) in (1..=100).flat_map(|seed| of_seed(seed).map(|pair| (seed, pair))) {
         let both_first = [&sheets[0]; 2].map(Clone::clone);
-        let name = format!("random pair {seed}{}", if zero { " with lot 0" } else { "" });
         for shuffled in [None, Some(seed)] {
             let job = job_of(&name, &sheets, shuffled);
             near_lengths(&job);
             near_lengths(&Job { given: Vec::new(), ..job_of(&format!("{name}, the first with itself"), &both_first, shuffled) });
+            checks.extend((withdrawn(&sheets) > 1).then_some(job.known.check));
             refusals.extend((job.known.check != 0).then_some(job.known));
             vacant |= sheets[0].records() > sheets[0].terms();
         }
@@ -111,4 +124,5 @@ pub fn random_pairs() {
         refusals == HashSet::from([refused(18, 2), refused(18, 3)]) && vacant,
         "the random pairs have only these refusals: {refusals:?}"
     );
+    assert!(checks == HashSet::from([0, 18]), "the random pairs with withdrawn conditions have only these answers: {checks:?}");
 }

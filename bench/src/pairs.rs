@@ -33,12 +33,12 @@ impl Pair {
     }
 }
 
-/// What the document says of the two lists of conditions: those of the first, then those of the second, each unless an earlier one has the same terms in the
-/// same order. It may have more conditions or terms than a sheet can.
+/// What the document says of the two lists of conditions: those of the first, then those of the second, each unless it has terms and an earlier one has the
+/// same in the same order. It may have more conditions or terms than a sheet can.
 pub fn merged([first, second]: &[Sheet; 2]) -> Sheet {
     let mut merged = Sheet::new(first.lots.max(second.lots));
     for Condition { terms, .. } in first.conditions.iter().chain(&second.conditions) {
-        if merged.conditions.iter().all(|earlier| earlier.terms != *terms) {
+        if terms.is_empty() || merged.conditions.iter().all(|earlier| earlier.terms != *terms) {
             merged.condition(terms.iter().copied());
         }
     }
@@ -60,6 +60,18 @@ fn half_shared() -> [Sheet; 2] {
         second.conditions[c] = condition.clone();
     }
     [first, second]
+}
+
+/// Both sheets with each `step`-th condition withdrawn, which leaves its records vacant.
+pub fn some_withdrawn(sheets: [Sheet; 2], step: usize) -> [Sheet; 2] {
+    sheets.map(|mut sheet| {
+        sheet.withdraw_each(step);
+        sheet
+    })
+}
+
+fn each_second_withdrawn() -> [Sheet; 2] {
+    some_withdrawn(different(), 2)
 }
 
 /// The pairs of 128 lots, each in both orders.
@@ -147,6 +159,8 @@ pub fn rows() -> Vec<Pair> {
         row("itself", "256 conditions of 4 terms with itself, one slice", OneSlice, || twice(families::random(1, 256, 4))),
         row("itself-mixed", "the same, the second in random order", SecondMixed, || twice(families::random(1, 256, 4))),
         row("half-shared", "2 x 128 conditions of 4 terms, half shared, in order", AsConditions, half_shared),
+        row("withdrawn", "2 x 128 conditions of 4 terms, half withdrawn, in order", AsConditions, each_second_withdrawn),
+        row("withdrawn-mixed", "the same, half withdrawn, in random order", BothMixed, each_second_withdrawn),
         row("alike-8", "hostile: 128 of 8 terms, 7 alike, with itself", BothMixed, || twice(alike(0, 128, 8))),
         row("alike-4", "hostile: 256 of 4 terms, 3 alike, with itself", BothMixed, || twice(alike(0, 256, 4))),
         row("too-many", "hostile: 256 of 4 terms, 3 alike, with 256 others", BothMixed, || [alike(0, 256, 4), alike(256, 256, 4)]),
@@ -231,7 +245,7 @@ mod tests {
 
     #[test]
     fn sheets_of_the_rows_are_within_the_format_and_what_stays_of_them_is_known() {
-        let stays = [256, 256, 256, 256, 192, 128, 256, 512, 256, 256, 512, 1, 8];
+        let stays = [256, 256, 256, 256, 192, 256, 256, 128, 256, 512, 256, 256, 512, 1, 8];
         let (mut keys, mut names) = (HashSet::new(), HashSet::new());
         for (pair, stays) in rows().into_iter().zip(stays) {
             let sheets = (pair.sheets)();
@@ -239,6 +253,15 @@ mod tests {
             assert_eq!(merged(&sheets).conditions.len(), stays, "{}", pair.key);
             assert!(keys.insert(pair.key) && names.insert(pair.name));
         }
+    }
+
+    #[test]
+    fn a_sheet_with_itself_has_its_withdrawn_conditions_once_more() {
+        let [first, _] = each_second_withdrawn();
+        let stays = merged(&twice(first.clone())).conditions;
+        let terms = |conditions: &[Condition]| conditions.iter().map(|condition| condition.terms.clone()).collect::<Vec<_>>();
+        assert_eq!(terms(&stays[..128]), terms(&first.conditions));
+        assert_eq!(terms(&stays[128..]), vec![Vec::new(); 64]);
     }
 
     #[test]

@@ -65,6 +65,11 @@ impl Sheet {
         self.conditions.push(Condition { terms: Vec::new(), vacant });
     }
 
+    /// Withdraws condition 1, and behind it each `step`-th one.
+    pub fn withdraw_each(&mut self, step: usize) {
+        self.conditions.iter_mut().step_by(step).for_each(Condition::withdraw);
+    }
+
     /// The same conditions over so many lots, with other numbers for the lots that they name.
     pub fn renumbered(mut self, lots: usize, number: impl Fn(usize) -> usize) -> Sheet {
         self.lots = lots;

@@ -1,5 +1,5 @@
-//! A plain merger: it reads the chains of both sheets into a vector of terms for each condition, looks for each condition among those that stand already, one
-//! after the other, and writes these out. It doesn't check the sheets.
+//! A plain merger: it reads the chains of both sheets into a vector of terms for each condition, looks for each condition that has terms among those that stand
+//! already, one after the other, and writes these out. It doesn't check the sheets.
 use crate::records::{answered, refused};
 use crate::repack::plain::{packed_length, write};
 use crate::terms::{self, Term};
@@ -9,8 +9,8 @@ pub fn merge(first: &[u8], second: &[u8], out: &mut [u8]) -> Numbers {
     let mut merged: Vec<Vec<Term>> = Vec::new();
     for sheet in [first, second] {
         let (_, conditions, _) = terms::header(sheet);
-        for condition in (0..conditions).map(|c| terms::chain(sheet, c).collect()) {
-            if !merged.contains(&condition) {
+        for condition in (0..conditions).map(|c| terms::chain(sheet, c).collect::<Vec<Term>>()) {
+            if condition.is_empty() || !merged.contains(&condition) {
                 merged.push(condition);
             }
         }

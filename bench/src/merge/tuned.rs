@@ -1,5 +1,6 @@
 //! A tuned merger. The terms of the conditions that stay lie one after the other as numbers, each record without its next, and a table of hashes finds the
-//! condition that one repeats. Where records follow each other the processor goes on to the following one before it has the next. It doesn't check the sheets.
+//! condition that one repeats. A withdrawn condition stays without a look at the table, and nothing finds it there. Where records follow each other the
+//! processor goes on to the following one before it has the next. It doesn't check the sheets.
 use crate::records::{answered, refused};
 use crate::terms;
 use lihumbay::raw::Numbers;
@@ -7,15 +8,15 @@ use lihumbay::raw::Numbers;
 /// Sign and lots of a record.
 const FIELDS: u64 = 0xFFFF_FFFF_FFFF;
 
-/// A condition that stays: its hash, and where its terms lie.
+/// A condition that stays: its hash, and where its terms lie. A withdrawn one has none, and no hash is asked of it.
 struct Kept {
     hash: u64,
     start: usize,
     end: usize,
 }
 
-/// What stays of the conditions so far. A slot is empty, 0, or has the number of a condition, which counts from 1; there are at least twice as many slots as
-/// conditions come in.
+/// What stays of the conditions so far. A slot is empty, 0, or has the number of a condition with terms, which counts from 1 among all; there are at least twice
+/// as many slots as conditions come in.
 struct Merged {
     terms: Vec<u64>,
     kept: Vec<Kept>,
@@ -48,10 +49,13 @@ impl Merged {
         hash
     }
 
-    /// Adds a condition, unless it is there.
+    /// Adds a condition, unless it has terms and is there.
     #[inline]
     fn add(&mut self, records: &[[u8; 8]], head: usize) {
         let start = self.terms.len();
+        if head == 0 {
+            return self.kept.push(Kept { hash: 0, start, end: start });
+        }
         let hash = self.walk(records, head);
         let mask = self.slots.len() - 1;
         // The high bits of a product depend on all bits of its factors.
