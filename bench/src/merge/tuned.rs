@@ -15,8 +15,8 @@ struct Kept {
     end: usize,
 }
 
-/// What stays of the conditions so far. A slot is empty, 0, or has the number of a condition with terms, which counts from 1 among all; there are at least twice
-/// as many slots as conditions come in.
+/// What stays of the conditions so far. A slot is empty, 0, or has the number of a condition with terms, counted from 1 among all that stay; there are at least
+/// twice as many slots as conditions come in.
 struct Merged {
     terms: Vec<u64>,
     kept: Vec<Kept>,
