@@ -89,10 +89,10 @@ lihumbay_numbers lihumbay_repack(const uint8_t *sheet, size_t sheet_length, uint
    the sheet, 1 or 2, in `second`. Then check 18, for conditions, then for terms, and 19, each with 0 in `second`; an output of 8,710 bytes is never too short.
    The first `first` bytes of out are written: the packed sheet that has the larger number of lots, and the conditions of the first sheet in their order, then
    those of the second in theirs, less each one that repeats an earlier one, of either sheet. A condition repeats another where it has terms, and the other has
-   the same ones in the same order: the same sign, and the same two lots in the same order. A withdrawn condition, which has no term, repeats none, and always
-   keeps its place: a condition that stays has its number in the two lists one behind the other, less the repeats left out before it. What 18 counts is what is
-   left, the withdrawn conditions of both sheets included: 512 conditions and 2,048 terms may come in. An assignment of numbers to lots meets the merged sheet
-   exactly where it meets both sheets; lot 0 is one lot for both.
+   the same ones in the same order: the same sign, and the same two lots in the same order. A withdrawn condition, which has no term, is never left out, and
+   always keeps its place: a condition that stays has its number in the two lists one behind the other, less the repeats left out before it. What 18 counts is
+   what is left, the withdrawn conditions of both sheets included: 512 conditions and 2,048 terms may come in. An assignment of numbers to lots meets the merged
+   sheet exactly where it meets both sheets; lot 0 is one lot for both.
    No other byte of out is written, and on a refusal none is. */
 lihumbay_numbers lihumbay_merge(const uint8_t *first, size_t first_length, const uint8_t *second, size_t second_length, uint8_t *out, size_t out_length);
 

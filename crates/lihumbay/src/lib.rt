@@ -17,7 +17,7 @@ ghost use Rattle.repack.specs.Promises.{Alike, ServedAlike};
 ghost use Rattle.merge.specs.Repeats.{hasTerms};
 ghost use Rattle.merge.specs.Merge.{mergedConditions, whichRefused, mergeAnswer, mergeOut};
 ghost use Rattle.merge.specs.Answers.{mergedAnswer, sheetRefused};
-ghost use Rattle.merge.specs.Promises.{MeetsBoth, PlacesKept};
+ghost use Rattle.merge.specs.Promises.{MeetsBoth, Placed};
 ghost use Rattle.lihumbay.specs.Answers.{numbersOf, mergeNumbers};
 ghost use Rattle.lihumbay.specs.Promises.{ZeroExactly, NineExactly, OneExactly, OneMeets, OneZero, TwoExactly, TwoWhichever, TwoRefutes, NodesBounded, FirstUnmet, ZeroPassed, ZeroMeans, ZeroWritten};
 use checker::CheckAnswer;
@@ -202,7 +202,7 @@ pub extern "C" fn lihumbay_merge(first: &[u8], second: &[u8], out: &mut [u8]) ->
     ensures conditions { λ r. ⌜ ZeroWritten (λ w. conditions w ≡ mergedConditions hasTerms (now (first .entry)) (now (second .entry)))
         r (now (out .exit)) ⌝ }
     ensures meets { λ r. ⌜ ZeroWritten (λ w. MeetsBoth w (now (first .entry)) (now (second .entry))) r (now (out .exit)) ⌝ }
-    ensures places { λ r. ⌜ ZeroWritten (λ w. PlacesKept w (now (first .entry)) (now (second .entry))) r (now (out .exit)) ⌝ }
+    ensures places { λ r. ⌜ ZeroWritten (λ w. Placed w (now (first .entry)) (now (second .entry))) r (now (out .exit)) ⌝ }
 {
     of_merge(merge::merge(first, second, out))
 }

@@ -2,7 +2,7 @@
 use Prim.Native.Nat.{ℕ, _≤_, _<_}
 use mathlib.Core.Bool.{Bool}
 use mathlib.Core.List.{List, [], _∷_, _++_, flatten}
-use mathlib.Core.Path.{_≡_, refl, sym, ap, ap₂, subst, _∙_}
+use mathlib.Core.Path.{_≡_, refl, sym, ap, subst, _∙_}
 use native.Mathlib.Omega.{arith}
 use borrow.Author.Tests.{lt-ltb, le-ltb, ltb-false}
 use lib.Dec.{ltb}
@@ -24,7 +24,7 @@ use Rattle.repack.specs.Promises.{Alike}
 use Rattle.merge.specs.Repeats.{withoutRepeats, hasTerms}
 use Rattle.merge.specs.Merge.{whichRefused, whichRefusedWith, mergedConditions, merged, mergedLength, check18, check19, mergeVerdict, mergeVerdictWith, mergeAnswer, mergeAnswerWith, mergeOut, mergeOutWith}
 use Rattle.merge.proofs.Left.{mustStay}
-use Rattle.merge.proofs.Merged.{merged-length, itself-conditions, itself-terms}
+use Rattle.merge.proofs.Merged.{merged-length, merged-itself, itself-terms}
 
 -- ---- which sheet is refused
 
@@ -204,4 +204,4 @@ module _ (s out : List ℕ) (ok : Accepted s) (few : length (mergedConditions ha
   pub itself-output : mergeOut hasTerms s s out ≡ written (canonical (lotCount s) (withoutRepeats hasTerms [] (conditions s) ++ mustStay hasTerms (conditions s))) out
   itself-output =
       output-by hasTerms s s out Passes itself-passes
-      ∙ ap (λ (w : List ℕ). written w out) (ap₂ canonical (omega arith) (itself-conditions hasTerms s))
+      ∙ ap (λ (w : List ℕ). written w out) (merged-itself hasTerms s)

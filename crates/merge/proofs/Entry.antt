@@ -15,9 +15,9 @@ use Rattle.merge.specs.declared.MergeAnswer.{MergeAnswer}
 use Rattle.merge.specs.Repeats.{hasTerms}
 use Rattle.merge.specs.Merge.{whichRefused, mergedConditions, merged, mergeVerdict, mergeAnswer, mergeOut}
 use Rattle.merge.specs.Answers.{mergedAnswer, sheetRefused}
-use Rattle.merge.specs.Promises.{MeetsBoth, PlacesKept}
+use Rattle.merge.specs.Promises.{MeetsBoth, Placed}
 use Rattle.merge.proofs.Merged.{merged-accepted, merged-lots, merged-conditions, merged-packed, merged-meets}
-use Rattle.merge.proofs.Places.{places-kept}
+use Rattle.merge.proofs.Places.{placed}
 use Rattle.merge.proofs.Answering.{answerBy, answer-by, output-by, Fitted, fitted}
 
 module _ (s t out : List ℕ) where
@@ -65,7 +65,7 @@ module _ (s t out : List ℕ) where
       × (OfWritten (λ w. lotCount w ≡ max (lotCount s) (lotCount t)) (mergedAnswer r) out′
       × (OfWritten (λ w. conditions w ≡ mergedConditions hasTerms s t) (mergedAnswer r) out′
       × (OfWritten (λ w. MeetsBoth w s t) (mergedAnswer r) out′
-      × OfWritten (λ w. PlacesKept w s t) (mergedAnswer r) out′)))))))
+      × OfWritten (λ w. Placed w s t) (mergedAnswer r) out′)))))))
 
   pub ensured : (r : MergeAnswer) (out′ : List ℕ) → Equations r out′ → Ensured r out′
   ensured r out′ (answer, (sheet, output)) =
@@ -85,8 +85,8 @@ module _ (s t out : List ℕ) where
                     of-written (λ w. conditions w ≡ mergedConditions hasTerms s t) (λ n l. merged-conditions hasTerms s t (l .first) (l .second) (l .few) (l .short)) a answer,
                     (
                       of-written (λ w. MeetsBoth w s t) (λ n l f. merged-meets hasTerms s t (l .first) (l .second) (l .few) (l .short) f) a answer,
-                      of-written (λ w. PlacesKept w s t)
-                          (λ n l. places-kept (merged hasTerms s t) s t (merged-conditions hasTerms s t (l .first) (l .second) (l .few) (l .short))) a answer,
+                      of-written (λ w. Placed w s t)
+                          (λ n l. placed (merged hasTerms s t) s t (merged-conditions hasTerms s t (l .first) (l .second) (l .few) (l .short))) a answer,
                     ),
                   ),
                 ),

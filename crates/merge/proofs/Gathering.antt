@@ -13,7 +13,7 @@ use Rattle.sheet.specs.Conditions.{Term, conditionAt, conditions}
 use Rattle.sheet.proofs.Conditions.{conditions-step, conditions-end}
 use Rattle.writer.proofs.Packing.{terms-append}
 use Rattle.merge.specs.Repeats.{withoutRepeats, hasTerms}
-use Rattle.merge.specs.Inner.{numberIn, EntryOf, keptOf, leavesOut, EntriesOf}
+use Rattle.merge.specs.Inner.{numberIn, EntryOf, keptOf, isLeftOut, EntriesOf}
 use Rattle.merge.proofs.Entries.{entries-still}
 use Rattle.merge.proofs.Staying.{Staying, staying-start, staying-past, staying-next, staying-end}
 
@@ -100,7 +100,7 @@ module _ (s : List ℕ) (from : ℕ) (t start : List ℕ) where
       left = ap (λ (tss : List (List Term)). length (flatten tss)) step ∙ length-append next (flatten (drop (suc c) (conditions t)))
 
       -- The next condition is left out,
-      pub gathering-past : leavesOut next (earlier ++ found) ≡ true → Gathering (suc c) entries upto terms
+      pub gathering-past : isLeftOut next (earlier ++ found) ≡ true → Gathering (suc c) entries upto terms
       gathering-past e =
           record {
             within = more;
@@ -117,7 +117,7 @@ module _ (s : List ℕ) (from : ℕ) (t start : List ℕ) where
       pub terms-few : terms + length next ≤ length (flatten (conditions t))
       terms-few = omega (arith, l .short, left)
 
-      pub one-more : leavesOut next (earlier ++ found) ≡ false → upto < length entries → (entry : ℕ) → EntryOf t entry → numberIn entry ≡ suc c
+      pub one-more : isLeftOut next (earlier ++ found) ≡ false → upto < length entries → (entry : ℕ) → EntryOf t entry → numberIn entry ≡ suc c
           → (new : ℕ) → new ≡ length next → Gathering (suc c) (set entries upto entry) (suc upto) (terms + new)
       one-more e room entry one number new count =
           let kept : keptOf t (slice from (suc upto) (set entries upto entry)) ≡ found ++ next ∷ [] =

@@ -114,14 +114,19 @@ module _ (mayLeaveOut : List Term → Bool) (s t : List ℕ) where
 
 -- ---- a sheet with itself
 
--- It has its conditions without its repeats, and then once more those that may not be left out:
+-- It has its conditions without its repeats, and then once more those that may not be left out;
 pub itself-conditions : (mayLeaveOut : List Term → Bool) (s : List ℕ)
     → mergedConditions mayLeaveOut s s ≡ withoutRepeats mayLeaveOut [] (conditions s) ++ mustStay mayLeaveOut (conditions s)
 itself-conditions mayLeaveOut s =
     merged-halves mayLeaveOut s s
     ∙ rw (left-known mayLeaveOut (withoutRepeats mayLeaveOut [] (conditions s)) (conditions s) (left-every mayLeaveOut (conditions s)))
 
--- its withdrawn ones, which have no term.
+-- its bytes are packed from these.
+pub merged-itself : (mayLeaveOut : List Term → Bool) (s : List ℕ)
+    → merged mayLeaveOut s s ≡ canonical (lotCount s) (withoutRepeats mayLeaveOut [] (conditions s) ++ mustStay mayLeaveOut (conditions s))
+merged-itself mayLeaveOut s = ap₂ canonical (omega arith) (itself-conditions mayLeaveOut s)
+
+-- Where only conditions with terms may be left out, those that come once more are its withdrawn ones, which have no term.
 withdrawn-terms : (tss : List (List Term)) → flatten (mustStay hasTerms tss) ≡ []
 unfolding flatten
 withdrawn-terms [] = refl

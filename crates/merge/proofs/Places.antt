@@ -1,6 +1,6 @@
 -- Where the conditions that stay come to stand, for every rule of which may be left out.
 use Prim.Native.Nat.{ℕ, zero, suc, _+_, _-_, _≤_, _<_}
-use mathlib.Core.Bool.{Bool, true, false, cond, _&&_, false≢true}
+use mathlib.Core.Bool.{Bool, true, false, cond}
 use mathlib.Core.List.{List, [], _∷_, _++_}
 use mathlib.Core.Path.{_≡_, refl, sym, ap, subst, _∙_}
 use native.Mathlib.Omega.{arith}
@@ -10,7 +10,7 @@ use Rattle.sheet.specs.Conditions.{Term, conditions}
 use Rattle.merge.specs.Repeats.{repeats, withoutRepeats, hasTerms}
 use Rattle.merge.specs.Merge.{mergedConditions}
 use Rattle.merge.specs.Places.{StandsAt, leftOut, leftOutBefore}
-use Rattle.merge.specs.Promises.{PlacesKept}
+use Rattle.merge.specs.Promises.{Placed}
 use Rattle.merge.proofs.Equal.{repeated-all}
 use Rattle.merge.proofs.Left.{SameOnes, each-repeats, left-same, left-append, left-all, left-every}
 
@@ -98,9 +98,9 @@ unfolding leftOut
 withdrawn-stays tss i e = rw e
 
 -- So in a sheet that has the conditions of the result, all places are kept.
-pub places-kept : (w s t : List ℕ) → conditions w ≡ mergedConditions hasTerms s t → PlacesKept w s t
+pub placed : (w s t : List ℕ) → conditions w ≡ mergedConditions hasTerms s t → Placed w s t
 unfolding mergedConditions
-places-kept w s t e =
+placed w s t e =
     let both = conditions s ++ conditions t in
     record {
       withdrawn = λ i stands. rw e (stays-at hasTerms both i [] stands (withdrawn-stays both i (stands .this)));

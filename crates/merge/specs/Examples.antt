@@ -10,8 +10,9 @@ use Rattle.sheet.specs.Conditions.{chain, recordsFrom, termsFrom, countUp, cond
 use Rattle.sheet.specs.Answers.{Answer, refused, answered}
 use Rattle.canonical.specs.Canonical.{termRecord, chainRecords, sheetRecords, headsFrom, canonical}
 use Rattle.repack.specs.Examples.{shuffledC, sheetC, vacantOnly, empty, short, unreached, room}
-use Rattle.merge.specs.Repeats.{equalTerms, equalConditions, repeats, withoutRepeats, hasTerms}
+use Rattle.merge.specs.Repeats.{equalTerms, equalConditions, repeats, withoutRepeats, hasTerms, anyCondition}
 use Rattle.merge.specs.Merge.{whichRefused, whichRefusedWith, mergedConditions, check18, check19, mergeVerdictWith, mergeAnswer, mergeAnswerWith, mergeOut, mergeOutWith}
+use Rattle.merge.specs.Places.{leftOut, leftOutBefore}
 
 -- Document 01's sheet C has "same 1 2 or same 1 3" and "apart 1 2". This one has: "apart 1 2"; "same 1 3 or same 1 2"; "same 2 1"; "same 4 5".
 abbrev pub sheetF : List ℕ
@@ -80,7 +81,7 @@ withdrawnAgain =
     0 ∷ 0 ∷ 1 ∷ 0 ∷ 0 ∷ 0 ∷ 0 ∷ 0 ∷ 0 ∷ 0 ∷
     1 ∷ 0 ∷ 1 ∷ 0 ∷ 2 ∷ 0 ∷ 0 ∷ 0 ∷ []
 
--- Sheet C behind that one keeps its conditions, 4 and 5 of the result.
+-- Sheet C behind `withdrawnTwice`: its conditions are 4 and 5 of the result.
 abbrev pub withdrawnC : List ℕ
 withdrawnC =
     3 ∷ 0 ∷ 5 ∷ 0 ∷ 4 ∷ 0 ∷
@@ -121,6 +122,8 @@ pub mergings :
     ∷ merging empty empty 6
     -- withdrawn conditions keep their places
     ∷ merging withdrawnTwice shuffledC 49
+    -- 257 conditions come in, and 255 stay
+    ∷ merging (allWithdrawn 253) repeated 0
     -- 256 withdrawn conditions, 257, and 512
     ∷ merging (allWithdrawn 255) (allWithdrawn 1) 518
     ∷ merging (allWithdrawn 1) mostWithdrawn 999
@@ -145,6 +148,7 @@ pub mergings :
     ∷ leaves (refused 19 24) 0 (room 23)
     ∷ leaves (answered 6 0 0) 0 empty
     ∷ leaves (answered 48 0 0) 0 (withdrawnC ++ room 1)
+    ∷ leaves (refused 19 532) 0 []
     ∷ leaves (answered 518 0 0) 0 mostWithdrawn
     ∷ leaves (refused 18 2) 0 (room 999)
     ∷ leaves (refused 18 2) 0 []
@@ -157,3 +161,13 @@ pub mergings :
     ∷ []
 unfolding number twoBytes headAt signAt spareAt firstLotAt secondLotAt nextAt zeroBytes vacant firstRefusal lowestRefusal check1 check2 check3 check4 wellFormed check5 member walkChain walkChains walked check17And6 check7 sheetChecksWith sheetVerdictWith chain recordsFrom termsFrom countUp conditions termRecord chainRecords sheetRecords headsFrom canonical flatten equalTerms equalConditions repeats withoutRepeats whichRefusedWith mergedConditions check18 check19 mergeVerdictWith mergeAnswerWith mergeOutWith
 mergings = refl
+
+-- Of `repeated` and then `withdrawnTwice` the conditions 2, 4 and 6 are left out, which are "same 1 2"; and 7, were it not withdrawn.
+pub places :
+    leftOutBefore hasTerms (conditions repeated ++ conditions withdrawnTwice) 4
+    ∷ leftOutBefore hasTerms (conditions repeated ++ conditions withdrawnTwice) 7
+    ∷ leftOutBefore anyCondition (conditions repeated ++ conditions withdrawnTwice) 7
+    ∷ []
+    ≡ 2 ∷ 3 ∷ 4 ∷ []
+unfolding number headAt signAt firstLotAt secondLotAt nextAt chain recordsFrom termsFrom countUp conditions equalTerms equalConditions repeats leftOut leftOutBefore
+places = refl

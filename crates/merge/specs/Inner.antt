@@ -70,8 +70,8 @@ abbrev pub keptOf : List ℕ → List ℕ → List (List Term)
 keptOf s entries = map (λ entry. conditionAt s (numberIn entry)) entries
 
 -- A condition is left out behind these.
-abbrev pub leavesOut : List Term → List (List Term) → Bool
-leavesOut ts earlier = hasTerms ts && repeats ts earlier
+abbrev pub isLeftOut : List Term → List (List Term) → Bool
+isLeftOut ts earlier = hasTerms ts && repeats ts earlier
 
 -- From one place up to another, there are entries of a sheet.
 pub record EntriesOf (s : List ℕ) (from upto : ℕ) (entries : List ℕ) : Type 0 where

@@ -1,5 +1,5 @@
--- Which conditions are left out, by their places, and where the others come to stand (document 02, job 6). A condition's place is the number of those before it:
--- condition c has place c - 1.
+-- Which conditions are left out, by their places, and where the others come to stand (document 02, job 6). A condition's place is the number of those before
+-- it: condition c has place c - 1.
 use Prim.Native.Nat.{ℕ, zero, suc, _+_, _<_}
 use mathlib.Core.Bool.{Bool, cond, _&&_}
 use mathlib.Core.List.{List, []}

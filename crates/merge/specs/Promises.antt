@@ -14,7 +14,7 @@ abbrev pub MeetsBoth : List ℕ → List ℕ → List ℕ → Type 0
 MeetsBoth w s t = (f : ℕ → ℕ) → (Meets f w ↔ Meets f s × Meets f t)
 
 -- "keeping a struck place comes first": of the conditions of both sheets, those of the second behind those of the first,
-pub record PlacesKept (w s t : List ℕ) : Type 0 where
+pub record Placed (w s t : List ℕ) : Type 0 where
   -- each withdrawn one stays, and moves only by the repeats left out before it;
   pub withdrawn : (i : ℕ) → StandsAt (conditions s ++ conditions t) i []
       → StandsAt (conditions w) (i - leftOutBefore hasTerms (conditions s ++ conditions t) i) []

@@ -10,7 +10,7 @@ ghost use Rattle.sheet.specs.Conditions.{termsFrom};
 ghost use Rattle.sheet.specs.Inner.{HasConditions};
 ghost use Rattle.writer.specs.Drafts.{draft, withConditions, RoomForAll};
 ghost use Rattle.merge.specs.Repeats.{repeats};
-ghost use Rattle.merge.specs.Inner.{digestLimit, SoughtIn, numberIn, digestIn, EntriesOf, keptOf, leavesOut, Gathered, Entered};
+ghost use Rattle.merge.specs.Inner.{digestLimit, SoughtIn, numberIn, digestIn, EntriesOf, keptOf, isLeftOut, Gathered, Entered};
 use crate::chains;
 use crate::chains::Sought;
 use sheet::Condition;
@@ -86,8 +86,8 @@ fn repeats_between(
     false
 }
 
-// Whether a condition of the second sheet is left out: it has a term, and repeats one of the first sheet that has an entry, up to `from`, or one of its own that
-// has one.
+// Whether a condition of the second sheet is left out: it has a term, and repeats one of the first sheet that has an entry, up to `from`, or one of its own
+// that has one.
 fn left_out(
     first: &[u8],
     m1: u16,
@@ -100,7 +100,7 @@ fn left_out(
 ) -> bool
     requires { ⌜ HasConditions (now first) m1 × HasConditions (now second) m2 × SoughtIn (now second) condition
         × EntriesOf (now first) 0 from (now entries) × EntriesOf (now second) from upto (now entries) ⌝ }
-    ensures { λ r. ⌜ r ≡ leavesOut (termsFrom (now (second .entry)) (condition .head .0))
+    ensures { λ r. ⌜ r ≡ isLeftOut (termsFrom (now (second .entry)) (condition .head .0))
         (keptOf (now (first .entry)) (slice 0 from (now (entries .entry))) ++ keptOf (now (second .entry)) (slice from upto (now (entries .entry)))) ⌝ }
 {
     if condition.head.0 == 0 {

@@ -1,4 +1,5 @@
-// Merging: two accepted sheets become one, which has the conditions of the first and then those of the second, without repeats; a withdrawn condition is none.
+// Merging: two accepted sheets become one, which has the conditions of the first and then those of the second, without repeats, and with all that are
+// withdrawn.
 mod chains; // chains.rt: digests of chains, and whether two have the same terms
 mod kept; // kept.rt: the conditions that stay
 
@@ -13,7 +14,7 @@ ghost use Rattle.repack.specs.Repack.{repacked};
 ghost use Rattle.merge.specs.Repeats.{hasTerms};
 ghost use Rattle.merge.specs.Merge.{mergedLots, mergedConditions, whichRefused, mergeAnswer, mergeOut};
 ghost use Rattle.merge.specs.Answers.{mergedAnswer, sheetRefused};
-ghost use Rattle.merge.specs.Promises.{MeetsBoth, PlacesKept};
+ghost use Rattle.merge.specs.Promises.{MeetsBoth, Placed};
 use sheet::Reading;
 
 // What a merge answers: the length that it wrote, or a refusal, on which nothing is written: of the first sheet, of the second, or of both together.
@@ -104,7 +105,7 @@ pub fn merge(first: &[u8], second: &[u8], out: &mut [u8]) -> MergeAnswer
     ensures conditions { λ r. ⌜ OfWritten (λ w. conditions w ≡ mergedConditions hasTerms (now (first .entry)) (now (second .entry)))
         (mergedAnswer r) (now (out .exit)) ⌝ }
     ensures meets { λ r. ⌜ OfWritten (λ w. MeetsBoth w (now (first .entry)) (now (second .entry))) (mergedAnswer r) (now (out .exit)) ⌝ }
-    ensures places { λ r. ⌜ OfWritten (λ w. PlacesKept w (now (first .entry)) (now (second .entry))) (mergedAnswer r) (now (out .exit)) ⌝ }
+    ensures places { λ r. ⌜ OfWritten (λ w. Placed w (now (first .entry)) (now (second .entry))) (mergedAnswer r) (now (out .exit)) ⌝ }
 {
     let reading = sheet::read(first);
     match reading {

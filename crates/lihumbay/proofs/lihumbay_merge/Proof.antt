@@ -10,7 +10,7 @@ use Rattle.repack.specs.Repack.{repacked}
 use Rattle.merge.specs.Repeats.{hasTerms}
 use Rattle.merge.specs.Merge.{mergedConditions}
 use Rattle.merge.specs.Answers.{mergedAnswer, sheetRefused}
-use Rattle.merge.specs.Promises.{MeetsBoth, PlacesKept}
+use Rattle.merge.specs.Promises.{MeetsBoth, Placed}
 use Rattle.lihumbay.specs.Answers.{mergeNumbers}
 use Rattle.lihumbay.proofs.Promised.{zero-merged, merge-first}
 use Rattle.lihumbay.proofs.lihumbay_merge.Statement.{statement}
@@ -50,7 +50,7 @@ returns c =
                 zero-merged (λ (w : List ℕ). conditions w ≡ mergedConditions hasTerms s t) out′ a sheet first (promised .1 .1 .1 .0),
                 (
                   zero-merged (λ (w : List ℕ). MeetsBoth w s t) out′ a sheet first (promised .1 .1 .1 .1 .0),
-                  zero-merged (λ (w : List ℕ). PlacesKept w s t) out′ a sheet first (promised .1 .1 .1 .1 .1),
+                  zero-merged (λ (w : List ℕ). Placed w s t) out′ a sheet first (promised .1 .1 .1 .1 .1),
                 ),
               ),
             ),

@@ -12,7 +12,7 @@ use Rattle.sheet.specs.Inner.{OnChain}
 use Rattle.sheet.proofs.Accepted.{sound}
 use Rattle.sheet.proofs.ChainEnds.{head-on}
 use Rattle.sheet.proofs.Conditions.{terms-length}
-use Rattle.merge.specs.Inner.{digestLimit, digestOf, SoughtIn, EntryOf, keptOf, leavesOut}
+use Rattle.merge.specs.Inner.{digestLimit, digestOf, SoughtIn, EntryOf, keptOf, isLeftOut}
 use Rattle.merge.proofs.Digesting.{digest-small}
 use Rattle.merge.proofs.Gathering.{earlier, Gathering, gathering-start, first-entries, gathering-past, terms-few, one-more, all-stay}
 use Rattle.merge.proofs.kept.gather.Statement.{statement}
@@ -93,11 +93,11 @@ abbrev turnAt : tie.After-left-out Inv-loop μ-loop → tie.In-loop Inv-loop μ-
 turnAt c = c .before .before .before
 
 -- What `left_out` answers is asked of the condition behind those kept so far.
-told : (c : tie.After-left-out Inv-loop μ-loop) → c .left-out .result ≡ leavesOut (looked (turnAt c)) (behind (turnAt c) ++ own (turnAt c))
+told : (c : tie.After-left-out Inv-loop μ-loop) → c .left-out .result ≡ isLeftOut (looked (turnAt c)) (behind (turnAt c) ++ own (turnAt c))
 told c =
     let turn = turnAt c in
     c .left-out .ensures
-    ∙ ap₂ (λ (ts : List Term) (es : List ℕ). leavesOut ts (keptOf (begun turn .args .first .now) es ++ own turn)) (terms-of (c .before .before)) (turn .before .loop .inv .before)
+    ∙ ap₂ (λ (ts : List Term) (es : List ℕ). isLeftOut ts (keptOf (begun turn .args .first .now) es ++ own turn)) (terms-of (c .before .before)) (turn .before .loop .inv .before)
 
 loop-less : tie.Need-loop-less Inv-loop μ-loop
 loop-less c = omega (arith, turnAt (c .before) .loop-test .taken)

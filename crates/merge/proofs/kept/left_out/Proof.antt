@@ -11,18 +11,18 @@ use Rattle.sheet.specs.Conditions.{Term, termsFrom}
 use Rattle.sheet.specs.Inner.{OnChain}
 use Rattle.sheet.proofs.ChainEnds.{terms-end, terms-step}
 use Rattle.merge.specs.Repeats.{repeats}
-use Rattle.merge.specs.Inner.{keptOf, leavesOut}
+use Rattle.merge.specs.Inner.{keptOf, isLeftOut}
 use Rattle.merge.proofs.Equal.{repeats-append}
 use Rattle.merge.proofs.kept.left_out.Statement.{statement}
 use Rattle.merge.proofs.kept.left_out.Tie as tie
 
 -- A chain from zero on has no term,
-no-term-stays : (s : List ℕ) (head : ℕ) (earlier : List (List Term)) → head ≡ 0 → leavesOut (termsFrom s head) earlier ≡ false
+no-term-stays : (s : List ℕ) (head : ℕ) (earlier : List (List Term)) → head ≡ 0 → isLeftOut (termsFrom s head) earlier ≡ false
 no-term-stays s head earlier e = rw (e, terms-end s)
 
 -- and one from a record on has one, so that it is left out where it repeats one of two lists.
 by-repeats : (s : List ℕ) (head : ℕ) (first second : List (List Term)) → Accepted s → OnChain s head → 1 ≤ head
-    → leavesOut (termsFrom s head) (first ++ second) ≡ (repeats (termsFrom s head) first || repeats (termsFrom s head) second)
+    → isLeftOut (termsFrom s head) (first ++ second) ≡ (repeats (termsFrom s head) first || repeats (termsFrom s head) second)
 by-repeats s head first second ok on low =
     rw (terms-step s ok head low (on .within)) (repeats-append _ first second)
 
@@ -48,7 +48,7 @@ repeats-between-requires : tie.Need-repeats-between-requires
 repeats-between-requires c κs = search needs
 
 told : (c : tie.After-repeats-between) (b : Bool) → c .repeats-between .result ≡ b
-    → leavesOut (terms (begun c)) (behind (begun c) ++ own (begun c)) ≡ (b || repeats (terms (begun c)) (own (begun c)))
+    → isLeftOut (terms (begun c)) (behind (begun c) ++ own (begun c)) ≡ (b || repeats (terms (begun c)) (own (begun c)))
 told c b e =
     let start = begun c in
     by-repeats _ _ (behind start) (own start) (start .pre .1 .accepted) (start .pre .2 .on) (omega (arith, c .before .if1 .left))

@@ -3,3 +3,4 @@ mod Counting
 mod Cases
 pub mod Changes
 pub mod Numbers
+pub mod Itself

@@ -12,7 +12,7 @@ use Rattle.repack.specs.Examples.{sheetC, empty, unreached, room}
 use Rattle.merge.specs.Repeats.{equalTerms, equalConditions, repeats, withoutRepeats, hasTerms, anyCondition}
 use Rattle.merge.specs.Merge.{mergedConditions, check18, check19, mergeVerdictWith, mergeAnswer, mergeAnswerWith}
 use Rattle.merge.specs.Examples.{repeated, withdrawnTwice, allWithdrawn, mostWithdrawn}
-use Rattle.kept_places.specs.Changes.{withdrawnFrom, withdrawnCount}
+use Rattle.withdrawn_places.specs.Changes.{withdrawnFrom, withdrawnCount}
 
 -- How many withdrawn conditions two sheets hold, what is answered to them and so many bytes of output, and what was.
 pub data Beside : Type 0 where

@@ -2,12 +2,13 @@
 use Prim.Native.Nat.{ℕ, _+_, _-_, _*_, _≤_, _<_}
 use mathlib.Core.Bool.{Bool, true, false}
 use mathlib.Core.List.{List, [], _++_, flatten}
-use mathlib.Core.Logic.{_⊎_, inl, inr, ⊎-elim, _↔_, _≢_}
+use mathlib.Core.Logic.{_⊎_, inl, inr, ⊎-elim, _≢_}
 use mathlib.Core.Path.{_≡_, refl, sym, ap, _∙_}
 use native.Mathlib.Omega.{arith}
 use borrow.Author.Tests.{leb-true, leb-false, ltb-true, ltb-false}
 use lib.Dec.{leb, ltb}
 use lib.ListN.{length}
+use Rattle.buffers.specs.Written.{written}
 use Rattle.sheet.specs.declared.Verdict.{Verdict}
 use Rattle.sheet.specs.declared.Verdict.the-variants.{Passes, Refuses}
 use Rattle.sheet.specs.Format.{mostConditions, mostRecords}
@@ -15,12 +16,12 @@ use Rattle.sheet.specs.Checks.{Accepted, sheetVerdict}
 use Rattle.sheet.specs.Conditions.{Term, conditions}
 use Rattle.sheet.specs.Answers.{Answer, refused, answered}
 use Rattle.merge.specs.Repeats.{repeats, anyCondition, hasTerms}
-use Rattle.merge.specs.Merge.{mergedConditions, mergedLength, check18, check19, mergeVerdict, mergeVerdictWith, mergeAnswer, mergeAnswerWith, mergeOut, mergeOutWith}
-use Rattle.merge.proofs.Answering.{answer-by, first-refused, second-refused, many-conditions, output-short, all-pass}
-use Rattle.kept_places.specs.Changes.{withdrawnCount, Changes, Changed}
-use Rattle.kept_places.proofs.Beside.{emptyCount, beside-terms, beside-count, beside-alike}
-use Rattle.kept_places.proofs.Counting.{count-append, withdrawn-count}
-use Rattle.kept_places.proofs.Cases.{Case, above, terms-above, short, long, case, refused-18, refuses-terms}
+use Rattle.merge.specs.Merge.{mergedConditions, merged, mergedLength, check18, check19, mergeVerdict, mergeVerdictWith, mergeAnswer, mergeAnswerWith, mergeOut, mergeOutWith}
+use Rattle.merge.proofs.Answering.{answer-by, output-by, first-refused, second-refused, many-conditions, output-short, all-pass}
+use Rattle.withdrawn_places.specs.Changes.{withdrawnCount, Changes, ChangesExactly}
+use Rattle.withdrawn_places.proofs.Beside.{emptyCount, beside-terms, beside-count, beside-alike}
+use Rattle.withdrawn_places.proofs.Counting.{count-append, withdrawn-count}
+use Rattle.withdrawn_places.proofs.Cases.{Case, above, terms-above, short, long, case, refused-18, refuses-terms}
 
 -- ---- the two results
 
@@ -40,7 +41,7 @@ module _ (s t : List ℕ) where
     together : emptyCount (conditions s ++ conditions t) ≡ withdrawnCount s + withdrawnCount t
     together = omega (arith, count-append (conditions s) (conditions t), withdrawn-count s ok, withdrawn-count t ok′)
 
-    -- the first one condition more for each withdrawn one but one,
+    -- the first has one condition more for each withdrawn one but one,
     pub more-conditions : length now ≡ length before + (withdrawnCount s + withdrawnCount t - 1)
     unfolding mergedConditions repeats
     more-conditions = omega (arith, beside-count [] (conditions s ++ conditions t) false refl, together)
@@ -137,7 +138,7 @@ module _ (s t out : List ℕ) where
   -- ---- changed
 
   module _ (c : Changes s t) where
-    -- 18 doesn't refuse the terms alone: so it did before.
+    -- 18 doesn't refuse the terms alone: where it does so, it did before.
     not-terms : length (now s t) ≤ mostConditions → mostRecords < length (flatten (now s t)) → ⊥
     not-terms few many =
         let fewer : length (before s t) ≤ mostConditions = omega (arith, more-conditions s t (c .first) (c .second)) in
@@ -156,14 +157,17 @@ module _ (s t out : List ℕ) where
     short-now : length (now s t) ≤ mostConditions → length out < mergedLength hasTerms s t → mergeAnswer hasTerms s t out ≡ refused 19 (mergedLength hasTerms s t)
     short-now few less = answer-by hasTerms s t out (Refuses 19 _) (output-short hasTerms s t out (c .first) (c .second) few (terms-few few) less)
 
-    long-now : length (now s t) ≤ mostConditions → mergedLength hasTerms s t ≤ length out → mergeAnswer hasTerms s t out ≡ answered (mergedLength hasTerms s t) 0 0
-    long-now few enough = answer-by hasTerms s t out Passes (all-pass hasTerms s t out (c .first) (c .second) few (terms-few few) enough)
+    long-now : length (now s t) ≤ mostConditions → mergedLength hasTerms s t ≤ length out
+        → (mergeAnswer hasTerms s t out ≡ answered (mergedLength hasTerms s t) 0 0) × (mergeOut hasTerms s t out ≡ written (merged hasTerms s t) out)
+    long-now few enough =
+        let passes = all-pass hasTerms s t out (c .first) (c .second) few (terms-few few) enough in
+        (answer-by hasTerms s t out Passes passes, output-by hasTerms s t out Passes passes)
 
     differs : mergeAnswer hasTerms s t out ≢ mergeAnswer anyCondition s t out
     differs = ⊎-elim (λ alike. absurd (c .newly (alike .place) (alike .now18) (alike .before18))) (λ differ. differ) (compared (c .first) (c .second) (c .two))
 
-  pub changed : Changed s t out
-  changed =
+  pub changes-exactly : ChangesExactly s t out
+  changes-exactly =
       record {
         exactly = ((λ differ. ⊎-elim (λ c. c) (λ same. absurd (differ (same .0))) changes-or-same), differs);
         above = above-now;

@@ -1,19 +1,19 @@
 -- Under which numbers withdrawn conditions stand in a merged sheet: it follows from the places that a merge keeps.
-use Prim.Native.Nat.{ℕ, suc, _+_, _-_, _≤_, _<_}
+use Prim.Native.Nat.{ℕ, suc, _+_, _-_, _<_}
 use mathlib.Core.List.{List, [], _++_}
 use mathlib.Core.Path.{_≡_, sym, ap, subst, _∙_}
 use native.Mathlib.Omega.{arith}
 use lib.ListN.{length, getD, length-append, List·getD-append}
 use lib.Seq.{getD-append-add}
-use Rattle.sheet.specs.Format.{conditionCount, headAt}
+use Rattle.sheet.specs.Format.{conditionCount}
 use Rattle.sheet.specs.Checks.{Accepted}
 use Rattle.sheet.specs.Conditions.{Term, conditionAt, conditions}
 use Rattle.sheet.proofs.Conditions.{conditions-length, conditions-at, withdrawn-empty, empty-withdrawn}
 use Rattle.merge.specs.Repeats.{hasTerms}
 use Rattle.merge.specs.Places.{StandsAt, leftOutBefore}
-use Rattle.merge.specs.Promises.{PlacesKept}
+use Rattle.merge.specs.Promises.{Placed}
 use Rattle.merge.proofs.Places.{stay-before, before-front}
-use Rattle.kept_places.specs.Numbers.{Withdrawn, FirstStand, SecondStand}
+use Rattle.withdrawn_places.specs.Numbers.{Withdrawn, FirstStand, SecondStand}
 
 -- ---- by numbers and by places
 
@@ -32,7 +32,7 @@ withdrawn w i ok h =
     let high : i < conditionCount w = omega (arith, h .there, conditions-length w) in
     record { low = omega arith; high = high; head = empty-withdrawn w ok (suc i) (omega arith) high (sym (conditions-at w i high) ∙ h .this) }
 
-module _ (w s t : List ℕ) (ok : Accepted w) (places : PlacesKept w s t) where
+module _ (w s t : List ℕ) (ok : Accepted w) (places : Placed w s t) where
   abbrev both : List (List Term)
   both = conditions s ++ conditions t
 

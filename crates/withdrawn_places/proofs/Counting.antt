@@ -1,5 +1,5 @@
 -- In an accepted sheet the withdrawn conditions are those with no term.
-use Prim.Native.Nat.{ℕ, zero, suc, _+_, _≤_, _<_}
+use Prim.Native.Nat.{ℕ, zero, suc, _+_, _≤_}
 use mathlib.Core.Bool.{Bool, true, false, cond}
 use mathlib.Core.List.{List, [], _∷_, _++_, map}
 use mathlib.Core.Path.{_≡_, refl, sym, ap, _∙_}
@@ -11,8 +11,8 @@ use Rattle.sheet.specs.Format.{conditionCount, headAt}
 use Rattle.sheet.specs.Checks.{Accepted}
 use Rattle.sheet.specs.Conditions.{Term, countUp, conditionAt, conditions}
 use Rattle.sheet.proofs.Conditions.{withdrawn-empty, empty-withdrawn}
-use Rattle.kept_places.specs.Changes.{withdrawnFrom, withdrawnCount}
-use Rattle.kept_places.proofs.Beside.{emptyCount}
+use Rattle.withdrawn_places.specs.Changes.{withdrawnFrom, withdrawnCount}
+use Rattle.withdrawn_places.proofs.Beside.{emptyCount}
 
 -- One condition more.
 count-next : (ts : List Term) (tss : List (List Term)) (b : Bool) → (b ≡ true → ts ≡ []) → (b ≡ false → ts ≡ [] → ⊥)

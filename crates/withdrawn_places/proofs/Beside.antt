@@ -13,7 +13,7 @@ use Rattle.merge.proofs.Left.{mustStay}
 abbrev pub emptyCount : List (List Term) → ℕ
 emptyCount tss = length (mustStay hasTerms tss)
 
--- They give the same terms,
+-- Both give the same terms,
 pub beside-terms : (earlier tss : List (List Term)) → flatten (withoutRepeats hasTerms earlier tss) ≡ flatten (withoutRepeats anyCondition earlier tss)
 unfolding withoutRepeats flatten
 beside-terms earlier [] = refl
@@ -30,7 +30,7 @@ beside-terms earlier ((t ∷ ts) ∷ tss) =
     go true new old e = e
     go false new old e = ap (λ (rest : List Term). t ∷ ts ++ rest) e
 
--- so many conditions more (one less where none of the earlier ones has no term),
+-- the second rule as many conditions more as have no term, but for the first of them where no earlier one has none,
 pub beside-count : (earlier tss : List (List Term)) (b : Bool) → repeats [] earlier ≡ b
     → length (withoutRepeats hasTerms earlier tss) ≡ length (withoutRepeats anyCondition earlier tss) + (emptyCount tss - cond b 0 1)
 unfolding withoutRepeats repeats equalConditions
