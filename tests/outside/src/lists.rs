@@ -1,7 +1,6 @@
 //! Lists of known depth and length, and lists that are nothing in particular.
 use crate::random::Random;
-use crate::tree::{ground, split};
-use second::store::Record;
+use second::store::{Record, ground, met, split};
 use std::ops::RangeInclusive;
 
 /// A list whose last path has one split for each entry: `true`, the path goes on in the split's same branch and its apart branch is a ground; `false`, the
@@ -59,7 +58,7 @@ pub fn any(lots: usize, conditions: usize, length: usize, random: &mut Random) -
 pub fn any_record(lots: usize, conditions: usize, number: usize, random: &mut Random) -> Record {
     match random.below(20) {
         0 => Record { kind: random.byte(), ..ground(random.below(conditions + 2)) },
-        1 => Record { kind: 3, ..ground(0) },
+        1 => met(),
         2 => split(random.below(lots + 2), random.below(lots + 2), number + random.below(4)),
         3..=6 => split(random.below(lots + 1), random.below(lots + 1), number + random.below(4)),
         7..=10 if lots > 0 => split(random.range(1, lots), random.range(1, lots + 1), number + random.below(4)),

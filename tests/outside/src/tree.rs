@@ -1,22 +1,14 @@
 //! Refutations as trees, so that other hands than the search's can write and change them and every next is still right.
 use crate::random::Random;
-use second::limits::{GROUND, SPLIT};
+use second::limits::GROUND;
 use second::node::{Decision, Known, Truth};
 use second::sheet::{Sheet, Term, is_withdrawn};
-use second::store::Record;
+use second::store::{Record, ground, split};
 
 #[derive(Clone)]
 pub enum Tree {
     Ground(usize),
     Split(usize, usize, Box<Tree>, Box<Tree>),
-}
-
-pub fn ground(condition: usize) -> Record {
-    Record { kind: GROUND, spare: 0, first: condition as u16, second: 0, next: 0 }
-}
-
-pub fn split(a: usize, b: usize, next: usize) -> Record {
-    Record { kind: SPLIT, spare: 0, first: a as u16, second: b as u16, next: next as u16 }
 }
 
 impl Tree {

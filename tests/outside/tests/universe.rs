@@ -5,10 +5,9 @@ use outside::case::{Case, canonical_length, probe};
 use outside::merged::{compare_merge, merged_length};
 use outside::run::{run_case, say, with_stack};
 use outside::tally::Tally;
-use outside::tree::{ground, split};
 use second::reader::accept;
 use second::sheet::Term;
-use second::store::{Record, list_bytes};
+use second::store::{Record, ground, list_bytes, met, split};
 use second::writer::{apart, same, sheet_bytes, sheet_bytes_among, sheet_bytes_in};
 use std::collections::HashMap;
 
@@ -202,7 +201,7 @@ fn short_lists(one: usize, last: usize) {
             run_case(&case, &mut tally);
             count += 1;
         };
-        let odd = [Record { kind: 3, ..ground(0) }, Record { spare: 1, ..ground(1) }, ground(0), ground(3), ground(4)];
+        let odd = [met(), Record { spare: 1, ..ground(1) }, ground(0), ground(3), ground(4)];
         let beside = [split(one, last + 1, 3), split(last + 1, one, 3), split(0, one, 3)];
         let mut values: Vec<Record> = vec![ground(1), ground(2)];
         for next in [0, 2, 3, 4] {

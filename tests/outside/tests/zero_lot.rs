@@ -8,17 +8,12 @@ use outside::merged::{compare_merge, merge_laws, merged};
 use outside::random::Random;
 use outside::run::{run_case, with_stack};
 use outside::tally::Tally;
-use outside::tree::{ground, split};
-use second::limits::{MET, MOST_LOTS, NODE_LENGTH};
+use second::limits::{MOST_LOTS, NODE_LENGTH};
 use second::sheet::Term;
-use second::store::{Record, list_bytes};
+use second::store::{Record, ground, list_bytes, met, split};
 use second::writer::{apart, same, sheet_bytes, sheet_bytes_among};
 
 const FILL: u8 = 0xB6;
-
-fn met() -> Record {
-    Record { kind: MET, ..ground(0) }
-}
 
 fn case(lots: usize, conditions: &[Vec<Term>], grouping: &[u8], list: &[Record]) -> Case {
     let sheet = sheet_bytes(lots, conditions);

@@ -5,7 +5,7 @@ use crate::limits::*;
 use crate::node::{Decision, Known, Node, node};
 use crate::reader::accept;
 use crate::sheet::Sheet;
-use crate::store::{Record, list_bytes};
+use crate::store::{Record, ground, list_bytes, met, split};
 
 /// "The search starts with no decisions and stops at the first met node." The caller needs a stack for as many calls of `visit` as there are "same" terms.
 pub fn search(bytes: &[u8], grouping: &mut [u8], store: &mut [u8]) -> Result<Answer, Refusal> {
@@ -62,11 +62,11 @@ impl Run<'_> {
             Node::Met => {
                 // "Each lot's byte in the grouping is the smallest lot of its consignment." Document 02: "The grouping still has n bytes, for lots 1 to n."
                 self.grouping = (1..=self.sheet.lots).map(|lot| known.smallest(lot) as u8).collect();
-                self.record(MET, 0, 0);
+                self.nodes.push(met());
                 End::Met
             }
             Node::Ground(condition) => {
-                self.record(GROUND, condition, 0);
+                self.nodes.push(ground(condition));
                 End::NotMet
             }
             Node::Split(a, b) => {
@@ -78,15 +78,15 @@ impl Run<'_> {
 
     /// "the pair set same is tried first, then, if nothing was met there, the pair set apart"
     fn split(&mut self, a: usize, b: usize) -> End {
-        self.record(SPLIT, a, b);
-        let split = self.nodes.len();
+        self.nodes.push(split(a, b, 0));
+        let number = self.nodes.len();
         let end = self.branch(Decision::Same(a, b));
         if end != End::NotMet {
             return end;
         }
         // "next is the record where that second branch begins, zero if never visited": a visit that finds no room gives a full store, whose bytes are all zero.
         if let Ok(next) = u16::try_from(self.nodes.len() + 1) {
-            self.nodes[split - 1].next = next;
+            self.nodes[number - 1].next = next;
         }
         self.branch(Decision::Apart(a, b))
     }
@@ -96,9 +96,5 @@ impl Run<'_> {
         let end = self.visit();
         self.decisions.pop();
         end
-    }
-
-    fn record(&mut self, kind: u8, first: usize, second: usize) {
-        self.nodes.push(Record { kind, spare: 0, first: first as u16, second: second as u16, next: 0 });
     }
 }

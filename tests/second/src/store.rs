@@ -24,18 +24,23 @@ impl Record {
 }
 
 /// "Kind 1 split: lots a and b."
-pub fn split(a: u16, b: u16, next: u16) -> Record {
-    Record { kind: SPLIT, spare: 0, first: a, second: b, next }
+pub fn split(a: usize, b: usize, next: usize) -> Record {
+    record(SPLIT, a, b, next)
 }
 
 /// "Kind 2 ground: the condition, then 0."
-pub fn ground(condition: u16) -> Record {
-    Record { kind: GROUND, spare: 0, first: condition, second: 0, next: 0 }
+pub fn ground(condition: usize) -> Record {
+    record(GROUND, condition, 0, 0)
 }
 
 /// "Kind 3 met: 0, 0."
 pub fn met() -> Record {
-    Record { kind: MET, spare: 0, first: 0, second: 0, next: 0 }
+    record(MET, 0, 0, 0)
+}
+
+fn record(kind: u8, first: usize, second: usize, next: usize) -> Record {
+    let two_bytes = |number: usize| u16::try_from(number).expect("a number of two bytes");
+    Record { kind, spare: 0, first: two_bytes(first), second: two_bytes(second), next: two_bytes(next) }
 }
 
 /// The bytes of a list of records, one after the other.

@@ -114,7 +114,7 @@ fn pairs_decided_before_and_lots_twice() {
 
 /// A list of `depth` splits, each in the same branch of the one before, on a sheet that no assignment meets.
 fn nested(depth: usize) -> Vec<Record> {
-    let mut records: Vec<Record> = (1..=depth).map(|i| split(1, 1, (2 * depth + 2 - i) as u16)).collect();
+    let mut records: Vec<Record> = (1..=depth).map(|i| split(1, 1, 2 * depth + 2 - i)).collect();
     records.extend(vec![ground(1); depth + 1]);
     records
 }
@@ -134,7 +134,7 @@ fn splits_above() {
 #[test]
 fn splits_above_in_the_apart_branch_count() {
     let sheet = sheet_bytes(1, &[vec![apart(1, 1)]]);
-    let chain = |depth: u16| -> Vec<Record> {
+    let chain = |depth: usize| -> Vec<Record> {
         let pairs = (0..depth).flat_map(|i| [split(1, 1, 2 * i + 3), ground(1)]);
         pairs.chain([ground(1)]).collect()
     };

@@ -76,7 +76,7 @@ fn chains_of_all_lots_down_to_lot_0() {
     let upwards: Vec<Vec<Term>> = (0..128).map(|lot| vec![same(lot, lot + 1)]).collect();
     let downwards: Vec<Vec<Term>> = upwards.iter().rev().cloned().collect();
     for conditions in [upwards, downwards] {
-        let splits = conditions.iter().map(|condition| split(condition[0].a as u16, condition[0].b as u16, 0));
+        let splits = conditions.iter().map(|condition| split(condition[0].a, condition[0].b, 0));
         let nodes: Vec<Record> = splits.chain([met()]).collect();
         met_by(128, &conditions, &nodes, &[0; 128]);
     }
