@@ -1,7 +1,7 @@
-//! A second implementation of document 01, and of document 02's jobs 1, 2, 4 and 5, which shares no code with the product: it was written from the papers' text
-//! and, for document 02, the settled readings of it, and follows the text word for word, without regard to time. A sentence in quotation marks in a comment is
-//! the papers'. Where they say consignment, numbering, grounds list, judge, packed sheet, struck condition and hold, the code says class, assignment,
-//! refutation, evaluator, canonical bytes, withdrawn condition and zero lot.
+//! A second implementation of document 01, and of document 02's jobs 1, 2, 4, 5 and 6, which shares no code with the product: it was written from the papers'
+//! text and, for document 02, the settled readings of it, and follows the text word for word, without regard to time. A sentence in quotation marks in a
+//! comment is the papers'. Where they say consignment, numbering, grounds list, judge, packed sheet, struck condition and hold, the code says class,
+//! assignment, refutation, evaluator, canonical bytes, withdrawn condition and zero lot.
 pub mod answer;
 pub mod evaluator;
 pub mod limits;

@@ -1,8 +1,8 @@
-//! Two sheets merged into one, and checks 18 and 19: document 02's job 4.
+//! Two sheets merged into one, and checks 18 and 19: document 02's jobs 4 and 6.
 use crate::answer::{Answer, Refusal, refuse};
 use crate::limits::{MOST_CONDITIONS, MOST_TERMS};
 use crate::reader::accept;
-use crate::sheet::{Sheet, Term};
+use crate::sheet::{Sheet, Term, is_withdrawn};
 use crate::writer::sheet_bytes;
 
 /// Why two sheets are not merged.
@@ -13,21 +13,30 @@ pub struct MergeRefusal {
     pub sheet: usize,
 }
 
-/// "The first sheet is checked before the second, and a refusal from reading says which it was." 18 and 19: "both after the two readings".
+/// Which conditions may be left out where they repeat an earlier one.
+pub type MayLeaveOut = fn(&[Term]) -> bool;
+
+/// Job 6: "only conditions with terms can be left out as repeats"
 pub fn merge(first: &[u8], second: &[u8], out: &mut [u8]) -> Result<Answer, MergeRefusal> {
+    merge_where(|condition| !is_withdrawn(condition), first, second, out)
+}
+
+/// The merge with any rule of what may be left out; in job 4's own every condition may. "The first sheet is checked before the second, and a refusal from
+/// reading says which it was." 18 and 19: "both after the two readings".
+pub fn merge_where(may_leave_out: MayLeaveOut, first: &[u8], second: &[u8], out: &mut [u8]) -> Result<Answer, MergeRefusal> {
     let first = accept(first).map_err(|refusal| MergeRefusal { refusal, sheet: 1 })?;
     let second = accept(second).map_err(|refusal| MergeRefusal { refusal, sheet: 2 })?;
-    write(&first, &second, out).map_err(|refusal| MergeRefusal { refusal, sheet: 0 })
+    // "lots are the larger n"
+    let lots = first.lots.max(second.lots);
+    let conditions = merged_conditions(may_leave_out, &first, &second);
+    write(lots, &conditions, out).map_err(|refusal| MergeRefusal { refusal, sheet: 0 })
 }
 
 /// The merged sheet into the output. Job 1: "Output past the packed length is untouched, by later sheet writers too; each answers the length it wrote."
-fn write(first: &Sheet, second: &Sheet, out: &mut [u8]) -> Result<Answer, Refusal> {
-    // "lots are the larger n"
-    let lots = first.lots.max(second.lots);
-    let conditions = merged_conditions(first, second);
-    within_most(&conditions)?;
+fn write(lots: usize, conditions: &[Vec<Term>], out: &mut [u8]) -> Result<Answer, Refusal> {
+    within_most(conditions)?;
     // "The result is packed."
-    let canonical = sheet_bytes(lots, &conditions);
+    let canonical = sheet_bytes(lots, conditions);
     // "19, output too short (place the length needed)", "nothing written"
     let length = canonical.len();
     if out.len() < length {
@@ -38,11 +47,11 @@ fn write(first: &Sheet, second: &Sheet, out: &mut [u8]) -> Result<Answer, Refusa
 }
 
 /// "the conditions of the first come in order, then those of the second; one with the same terms in the same order as an earlier one is left out". The earlier
-/// one may be of either sheet. Two withdrawn conditions have the same terms, none, so of all that are withdrawn the earliest stays.
-fn merged_conditions(first: &Sheet, second: &Sheet) -> Vec<Vec<Term>> {
+/// one may be of either sheet. Two withdrawn conditions have the same terms, none, but job 6 says: "keeping a struck place comes first".
+fn merged_conditions(may_leave_out: MayLeaveOut, first: &Sheet, second: &Sheet) -> Vec<Vec<Term>> {
     let mut merged: Vec<Vec<Term>> = Vec::new();
     for condition in first.conditions.iter().chain(&second.conditions) {
-        if !merged.contains(condition) {
+        if !(may_leave_out(condition) && merged.contains(condition)) {
             merged.push(condition.clone());
         }
     }

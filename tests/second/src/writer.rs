@@ -2,11 +2,11 @@
 use crate::limits::{APART, SAME, TERM_LENGTH};
 use crate::sheet::{Sign, Term};
 
-pub fn same(a: usize, b: usize) -> Term {
+pub const fn same(a: usize, b: usize) -> Term {
     Term { sign: Sign::Same, a, b }
 }
 
-pub fn apart(a: usize, b: usize) -> Term {
+pub const fn apart(a: usize, b: usize) -> Term {
     Term { sign: Sign::Apart, a, b }
 }
 

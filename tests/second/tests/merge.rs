@@ -1,49 +1,15 @@
 //! Document 02's job 4: two sheets merged, and checks 18 and 19, each by hand.
+mod merging;
+
+use merging::{C, C_WITHDRAWN, FILL, different, merged, merges_to, refused};
 use second::answer::Answer;
-use second::merge::{MergeRefusal, merge_numbers};
+use second::merge::merge_numbers;
 use second::sheet::Term;
 use second::writer::{apart, same, sheet_bytes, sheet_bytes_among, sheet_bytes_in};
-use second::{Refusal, evaluate, merge, repack};
-
-const FILL: u8 = 0xA7;
-
-/// The merged sheet, in an output that has room for five more bytes; those stay as they were.
-fn merged(first: &[u8], second: &[u8]) -> Vec<u8> {
-    let mut out = vec![FILL; first.len() + second.len() + 5];
-    let Ok(Answer::Written { length }) = merge(first, second, &mut out) else {
-        panic!("two sheets that are accepted, and room for the merged one")
-    };
-    assert!(out[length..].iter().all(|&byte| byte == FILL));
-    out.truncate(length);
-    out
-}
-
-/// Two sheets with so many lots and these conditions merge into one that has the expected conditions.
-fn merges_to(lots: usize, first: &[&[Term]], second: &[&[Term]], expected: &[&[Term]]) {
-    let sheet = |conditions: &[&[Term]]| sheet_bytes(lots, &conditions.iter().map(|terms| terms.to_vec()).collect::<Vec<_>>());
-    assert_eq!(merged(&sheet(first), &sheet(second)), sheet(expected));
-}
-
-/// The two are refused so with this much room, and no byte is written.
-fn refused(first: &[u8], second: &[u8], room: usize, check: u32, place: usize, sheet: usize) {
-    let mut out = vec![FILL; room];
-    let refusal = Refusal { check, place };
-    assert_eq!(merge(first, second, &mut out), Err(MergeRefusal { refusal, sheet }), "room for {room} bytes");
-    assert!(out.iter().all(|&byte| byte == FILL));
-}
-
-/// Document 01's sheet C, in its bytes: (same 1 2 or same 1 3) and (apart 1 2), three lots.
-const C: [u8; 34] = [3, 0, 2, 0, 3, 0, 1, 0, 3, 0, 1, 0, 1, 0, 2, 0, 2, 0, 1, 0, 1, 0, 3, 0, 0, 0, 2, 0, 1, 0, 2, 0, 0, 0];
+use second::{evaluate, merge, repack};
 
 /// Two lots, (same 2 1): fewer lots than C.
 const E: [u8; 16] = [2, 0, 1, 0, 1, 0, 1, 0, 1, 0, 2, 0, 1, 0, 0, 0];
-
-/// The first so many of 512 conditions that all differ, a term each, over 128 lots.
-fn different(count: usize) -> Vec<Vec<Term>> {
-    let kinds = [same, apart].into_iter().flat_map(|kind| (1..=2).map(move |b| (kind, b)));
-    let all = kinds.flat_map(|(kind, b)| (1..=128).map(move |a| vec![kind(a, b)]));
-    all.take(count).collect()
-}
 
 #[test]
 fn the_conditions_of_the_first_come_before_those_of_the_second() {
@@ -225,45 +191,7 @@ fn a_refusal_from_reading_says_which_sheet() {
 }
 
 #[test]
-fn withdrawn_conditions_repeat_each_other() {
-    let (p, q, none): (&[Term], &[Term], &[Term]) = (&[same(1, 2)], &[apart(1, 2)], &[]);
-    // One alone keeps its place, whichever sheet has it.
-    merges_to(2, &[p, none, q], &[], &[p, none, q]);
-    merges_to(2, &[p], &[none, q], &[p, none, q]);
-    // A later one has the same terms as it, none, and is left out: across the sheets and within either.
-    merges_to(2, &[none, p], &[none, q], &[none, p, q]);
-    merges_to(2, &[none, p, none, q], &[], &[none, p, q]);
-    merges_to(2, &[p], &[none, none, q], &[p, none, q]);
-    merges_to(2, &[none, none], &[none], &[none]);
-}
-
-#[test]
-fn withdrawn_conditions_left_out_are_not_counted() {
-    // 254 conditions with terms and three withdrawn ones, of which one stays: with one more condition it is 256, with two it is 257.
-    let (all, none) = (different(256), [vec![]]);
-    let first = sheet_bytes(128, &[&none, &all[..254], &none].concat());
-    let second = |last: usize| sheet_bytes(128, &[&none, &all[254..last]].concat());
-    assert_eq!(merged(&first, &second(255)), sheet_bytes(128, &[&none, &all[..255]].concat()));
-    refused(&first, &second(256), 5000, 18, 2, 0);
-}
-
-/// Sheet C with condition 1 withdrawn: its two records are vacant.
-const C_WITHDRAWN: [u8; 34] = [3, 0, 2, 0, 3, 0, 0, 0, 3, 0, 0, 0, 0, 0, 0, 0, 0, 0, 0, 0, 0, 0, 0, 0, 0, 0, 2, 0, 1, 0, 2, 0, 0, 0];
-
-#[test]
-fn vacant_records_of_withdrawn_conditions_are_dropped() {
-    let expected = [3, 0, 2, 0, 1, 0, 0, 0, 1, 0, 2, 0, 1, 0, 2, 0, 0, 0];
-    assert_eq!(merged(&C_WITHDRAWN, &[0; 6]), expected);
-    assert_eq!(merged(&[0; 6], &C_WITHDRAWN), expected);
-    assert_eq!(merged(&C_WITHDRAWN, &C_WITHDRAWN), expected);
-    // C's condition 2 is a repeat; a condition with terms and a withdrawn one are none of each other.
-    let c = [vec![same(1, 2), same(1, 3)], vec![apart(1, 2)]];
-    assert_eq!(merged(&C, &C_WITHDRAWN), sheet_bytes(3, &[c[0].clone(), c[1].clone(), vec![]]));
-    assert_eq!(merged(&C_WITHDRAWN, &C), sheet_bytes(3, &[vec![], c[1].clone(), c[0].clone()]));
-}
-
-#[test]
-fn a_numbering_meets_it_exactly_when_it_meets_both() {
+fn an_assignment_meets_it_exactly_when_it_meets_both() {
     let sheets = [
         C.to_vec(),
         E.to_vec(),

@@ -176,10 +176,11 @@ fn merged_sheets_keep_terms_on_lot_0() {
         out.truncate(length as usize);
         out
     };
-    // Lots in the other order, the other sign, another lot: none is a repeat of another. "same 0 1" is one of itself.
+    // Lots in the other order, the other sign, another lot: none is a repeat of another. "same 0 1" is one of itself, and what is withdrawn
+    // stays.
     let all = [vec![same(0, 1)], vec![same(1, 0)], vec![apart(0, 1)], vec![same(0, 0)], vec![same(1, 1)], vec![]];
     let again = [all[3].clone(), all[0].clone(), all[5].clone()];
-    assert_eq!(merged(&sheet_bytes(1, &all), &sheet_bytes(4, &again)), sheet_bytes(4, &all));
+    assert_eq!(merged(&sheet_bytes(1, &all), &sheet_bytes(4, &again)), sheet_bytes(4, &[&all[..], &[vec![]]].concat()));
     // No lots in one of them, or in both.
     let none = sheet_bytes(0, &[vec![same(0, 0)]]);
     assert_eq!(merged(&none, &sheet_bytes(3, &[vec![apart(0, 3)]])), sheet_bytes(3, &[vec![same(0, 0)], vec![apart(0, 3)]]));
