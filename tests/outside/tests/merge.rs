@@ -1,74 +1,15 @@
 //! The merge of two sheets: the archive beside the second implementation on random pairs, whole and damaged, with outputs of every interesting length; the
 //! limits from both sides; and laws of what is written.
-use outside::merged::{Tried, compare_lengths, compare_merge, merge_laws, merged};
+use outside::merge_expected::{above, come_to, different, long};
+use outside::merge_run::{Seen, run, run_pairs};
+use outside::merged::{compare_merge, merged};
 use outside::pairs::{Conditions, Pair, damaged, large, small};
 use outside::random::Random;
 use outside::run::{say, with_stack};
 use second::limits::{MOST_CONDITIONS, MOST_TERMS};
 use second::sheet::Term;
 use second::writer::{apart, same, sheet_bytes, sheet_bytes_among, sheet_bytes_in};
-use std::collections::BTreeMap;
 use std::slice::from_ref;
-
-/// How often each answer was seen: the check, the sheet that a refusal is of, and the place where the check is 18.
-#[derive(Default)]
-struct Seen {
-    answers: BTreeMap<[u32; 3], usize>,
-    tried: Tried,
-}
-
-impl Seen {
-    fn add(&mut self, [check, first, second, _]: [u32; 4]) {
-        let key = [check, if check == 0 { 0 } else { second }, if check == 18 { first } else { 0 }];
-        *self.answers.entry(key).or_default() += 1;
-    }
-
-    fn at_least(&self, least: usize, check: u32, sheet: u32, place: u32) {
-        let seen = self.answers.get(&[check, sheet, place]).copied().unwrap_or(0);
-        assert!(seen >= least, "check {check}, sheet {sheet}, place {place} was seen {seen} times only");
-    }
-
-    fn report(&self, what: &str) {
-        let answers: String = self
-            .answers
-            .iter()
-            .map(|([check, sheet, place], count)| match (check, sheet) {
-                (0, _) => format!(", {count} written"),
-                (18, _) => format!(", {count} check 18 at {place}"),
-                (_, 0) => format!(", {count} check {check}"),
-                _ => format!(", {count} check {check} of sheet {sheet}"),
-            })
-            .collect();
-        let Tried { met, unmet } = self.tried;
-        say(&format!("{what}{answers}; {met} groupings met both sheets, {unmet} did not"));
-    }
-}
-
-/// Outputs of all lengths and all laws, on one pair.
-fn run(first: &[u8], second: &[u8], random: &mut Random, seen: &mut Seen) {
-    let fails = |difference: String| -> ! { panic!("{difference}\nfirst  {first:02x?}\nsecond {second:02x?}") };
-    let answers = compare_lengths(first, second, random).unwrap_or_else(|difference| fails(difference));
-    answers.into_iter().for_each(|answer| seen.add(answer));
-    let tried = merge_laws(first, second, random).unwrap_or_else(|difference| fails(difference));
-    seen.tried.met += tried.met;
-    seen.tried.unmet += tried.unmet;
-}
-
-/// So many pairs of a kind; every fourth also has its sheets turned round, and each of them merged with itself, as one slice.
-fn run_pairs(what: &str, count: usize, seed: u64, make: fn(&mut Random) -> Pair) -> Seen {
-    let (mut random, mut seen) = (Random::new(seed), Seen::default());
-    for number in 0..count {
-        let Pair { first, second } = make(&mut random);
-        run(&first, &second, &mut random, &mut seen);
-        if number % 4 == 0 {
-            run(&second, &first, &mut random, &mut seen);
-            run(&first, &first, &mut random, &mut seen);
-            run(&second, &second, &mut random, &mut seen);
-        }
-    }
-    seen.report(&format!("{count} {what}"));
-    seen
-}
 
 #[test]
 fn pairs_of_small_sheets() {
@@ -152,42 +93,6 @@ fn the_first_sheets_refusal_wins() {
     }
 }
 
-/// So many conditions of one term, all different, from this number on.
-fn different(from: usize, count: usize) -> Conditions {
-    (from..from + count).map(|number| vec![same(number / 128 + 1, number % 128 + 1)]).collect()
-}
-
-/// Two sheets of 128 lots, records in any order and with vacant ones where there is room, come to a sheet of 128 lots with these conditions.
-fn come_to(first: &[Vec<Term>], second: &[Vec<Term>], expected: &[Vec<Term>], random: &mut Random) {
-    let (one, other) = (scattered(first, random), scattered(second, random));
-    let whole = sheet_bytes(128, expected);
-    let before = random.bytes(whole.len() + 3);
-    assert_eq!(compare_merge(&one, &other, &before), Ok([0, whole.len() as u32, 0, 0]));
-    let after = merged(&one, &other, &before).out;
-    assert_eq!((&after[..whole.len()], &after[whole.len()..]), (whole.as_slice(), &before[whole.len()..]));
-    assert_eq!(compare_merge(&one, &other, &before[..whole.len() - 1]), Ok([19, whole.len() as u32, 0, 0]));
-    merge_laws(&one, &other, random).expect("laws of a merge");
-}
-
-/// The conditions as a sheet of 128 lots with its records in a random order.
-fn scattered(conditions: &[Vec<Term>], random: &mut Random) -> Vec<u8> {
-    let terms: usize = conditions.iter().map(Vec::len).sum();
-    let count = (terms + 5).min(MOST_TERMS);
-    let mut places: Vec<usize> = (1..=count).collect();
-    random.shuffle(&mut places);
-    sheet_bytes_among(128, conditions, &places[..terms], count)
-}
-
-/// Two such sheets are refused by 18 at this place, whatever the room.
-fn above(first: &[Vec<Term>], second: &[Vec<Term>], place: u32, random: &mut Random) {
-    let (one, other) = (scattered(first, random), scattered(second, random));
-    for room in [0, 6, one.len() + other.len(), 20_000] {
-        let before = random.bytes(room);
-        assert_eq!(compare_merge(&one, &other, &before), Ok([18, place, 0, 0]));
-        assert_eq!(compare_merge(&other, &one, &before), Ok([18, place, 0, 0]));
-    }
-}
-
 #[test]
 fn conditions_up_to_the_most() {
     with_stack(|| {
@@ -210,11 +115,6 @@ fn conditions_up_to_the_most() {
         come_to(&all[..255], &vec![vec![]; 256], &with_withdrawn, &mut random);
         above(&all, &[vec![]], 2, &mut random);
     });
-}
-
-/// One condition with so many terms, of which the last is of this lot.
-fn long(terms: usize, lot: usize) -> Conditions {
-    vec![[vec![same(1, 2); terms - 1], vec![apart(1, lot)]].concat()]
 }
 
 #[test]
