@@ -1,11 +1,14 @@
-//! Laws of two sheets and what the archive merges them into, which need no second implementation.
+//! Laws of two sheets and what the archive merges them into. The second implementation's reader and writer serve to tell a sheet's conditions.
 use crate::canonical::canonical;
 use crate::compare::{plain, same};
 use crate::laws::{AROUND, among, groupings};
 use crate::merged::merged;
 use crate::random::Random;
 use lihumbay::raw;
-use second::limits::{MOST_LOTS, NODE_LENGTH};
+use second::limits::{MOST_CONDITIONS, MOST_LOTS, NODE_LENGTH};
+use second::reader::accept;
+use second::sheet::{Term, is_withdrawn};
+use second::writer::sheet_bytes;
 
 /// Groupings that were tried on a merged sheet: how many met both sheets, and how many did not.
 #[derive(Clone, Copy, Debug, Default)]
@@ -23,7 +26,9 @@ pub fn merge_laws(first: &[u8], second: &[u8], random: &mut Random) -> Result<Tr
     if canonical(&whole)?.as_deref() != Some(&whole) {
         return Err("the merged sheet is not packed".into());
     }
+    in_place(first, second, &whole)?;
     merged_again(first, second, &whole)?;
+    merged_once_more(first, second, &whole)?;
     surrounded(first, second, &whole)?;
     met_by_both(first, second, &whole, random)
 }
@@ -59,24 +64,86 @@ fn read_as_both(first: &[u8], second: &[u8], whole: &[u8]) -> Result<(), String>
     Ok(())
 }
 
-/// The packed sheets come to the same; so does each with an empty sheet merged to it before; and merging a sheet of the two, or the whole, once more changes
-/// no byte.
+/// The conditions of a sheet that is accepted.
+fn conditions(sheet: &[u8]) -> Vec<Vec<Term>> {
+    accept(sheet).expect("a sheet that the archive accepts").conditions
+}
+
+/// A condition that stays has its number in the two lists, one behind the other, less the repeats left out before it. What is left out has terms and is the
+/// same as an earlier condition, so that each withdrawn condition stays; and the merged sheet has no other conditions.
+fn in_place(first: &[u8], second: &[u8], whole: &[u8]) -> Result<(), String> {
+    let (both, merged) = ([conditions(first), conditions(second)].concat(), conditions(whole));
+    let mut left_out = 0;
+    for (before, condition) in both.iter().enumerate() {
+        let (number, place) = (before + 1, before + 1 - left_out);
+        if !is_withdrawn(condition) && both[..before].contains(condition) {
+            left_out += 1;
+        } else if merged.get(place - 1) != Some(condition) {
+            return Err(format!("condition {number} of the two lists is not condition {place} of the merged sheet"));
+        }
+    }
+    match both.len() - left_out {
+        stay if stay == merged.len() => Ok(()),
+        stay => Err(format!("{stay} conditions stay, and the merged sheet has {}", merged.len())),
+    }
+}
+
+/// A sheet without its own repeats: what it comes to with an empty sheet before it or behind it.
+fn without_repeats(one: &[u8], other: &[u8]) -> Result<Vec<u8>, String> {
+    exact(one, other, plain(raw::merge(one, other, &mut []))[1] as usize)
+}
+
+const EMPTY: [u8; 6] = [0; 6];
+
+/// The packed sheets come to the same; so does each with an empty sheet merged to it before.
 fn merged_again(first: &[u8], second: &[u8], whole: &[u8]) -> Result<(), String> {
     let packed = |sheet: &[u8]| canonical(sheet).map(|found| found.expect("a sheet that is accepted"));
-    let empty = [0; 6];
-    let without_repeats = |one: &[u8], other: &[u8]| exact(one, other, plain(raw::merge(one, other, &mut []))[1] as usize);
     for (one, other) in [
         (packed(first)?, packed(second)?),
-        (without_repeats(first, &empty)?, second.to_vec()),
-        (first.to_vec(), without_repeats(&empty, second)?),
-        (whole.to_vec(), second.to_vec()),
-        (whole.to_vec(), first.to_vec()),
-        (first.to_vec(), whole.to_vec()),
-        (whole.to_vec(), whole.to_vec()),
+        (without_repeats(first, &EMPTY)?, second.to_vec()),
+        (first.to_vec(), without_repeats(&EMPTY, second)?),
     ] {
         if exact(&one, &other, whole.len())? != whole {
             return Err(format!("{one:02x?} and {other:02x?} come to something else than the merged sheet"));
         }
+    }
+    Ok(())
+}
+
+/// What is merged once more adds its withdrawn conditions and nothing else: at the end where it comes second, and behind the first sheet's own conditions where
+/// it is that sheet and comes first. So a sheet, or the whole, changes no byte where nothing of it is withdrawn.
+fn merged_once_more(first: &[u8], second: &[u8], whole: &[u8]) -> Result<(), String> {
+    let (alone, all) = (without_repeats(first, &EMPTY)?, conditions(whole));
+    let own = conditions(&alone);
+    for (one, other, conditions, at, more) in [
+        (whole, second, &all, all.len(), second),
+        (whole, first, &all, all.len(), first),
+        (whole, whole, &all, all.len(), whole),
+        (first, whole, &all, own.len(), first),
+        (first, first, &own, own.len(), first),
+    ] {
+        let expected = [&conditions[..at], &withdrawn(more), &conditions[at..]].concat();
+        come_to(one, other, &expected)?;
+    }
+    // With the empty sheet, which adds nothing, only repeats are lost, and of these there are none left.
+    come_to(whole, &EMPTY, &all)?;
+    come_to(&EMPTY, whole, &all)
+}
+
+/// The withdrawn conditions of a sheet, one behind the other.
+fn withdrawn(sheet: &[u8]) -> Vec<Vec<Term>> {
+    conditions(sheet).into_iter().filter(|condition| is_withdrawn(condition)).collect()
+}
+
+/// Two sheets come to one with these conditions, or are refused by 18 where these are too many.
+fn come_to(one: &[u8], other: &[u8], expected: &[Vec<Term>]) -> Result<(), String> {
+    if expected.len() > MOST_CONDITIONS {
+        return same("merge once more", &plain(raw::merge(one, other, &mut [0; 1000])), &[18, 2, 0, 0]);
+    }
+    let lots = one[0].max(other[0]);
+    let expected = sheet_bytes(usize::from(lots), expected);
+    if exact(one, other, expected.len())? != expected {
+        return Err(format!("{one:02x?} and {other:02x?} come to something else than {expected:02x?}"));
     }
     Ok(())
 }

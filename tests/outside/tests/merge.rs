@@ -109,10 +109,13 @@ fn conditions_up_to_the_most() {
             above(&all[..count], &different(count, 256), 2, &mut random);
             above(&all, &different(257 - count, count), 2, &mut random);
         }
-        // A withdrawn condition counts, once.
-        let with_withdrawn = [&all[..255], &[vec![]]].concat();
-        come_to(&with_withdrawn, &with_withdrawn, &with_withdrawn, &mut random);
-        come_to(&all[..255], &vec![vec![]; 256], &with_withdrawn, &mut random);
+        // A withdrawn condition counts each time that it comes.
+        let with_withdrawn = |count: usize| [&all[..count], &[vec![]]].concat();
+        come_to(&with_withdrawn(254), &with_withdrawn(254), &[with_withdrawn(254), vec![vec![]]].concat(), &mut random);
+        come_to(&with_withdrawn(255), &all[..255], &with_withdrawn(255), &mut random);
+        come_to(&all[..255], &[vec![]], &with_withdrawn(255), &mut random);
+        above(&with_withdrawn(255), &with_withdrawn(255), 2, &mut random);
+        above(&all[..255], &vec![vec![]; 256], 2, &mut random);
         above(&all, &[vec![]], 2, &mut random);
     });
 }
@@ -159,14 +162,16 @@ fn conditions_come_before_terms_and_both_before_the_output() {
 fn sheets_with_no_terms() {
     let mut random = Random::new(78);
     let none = |lots, conditions: usize, records| sheet_bytes_among(lots, &vec![vec![]; conditions], &[], records);
-    let sheets = [(0, 0, 0), (5, 0, 0), (128, 0, 1), (3, 0, 1024), (0, 1, 0), (7, 256, 0), (127, 256, 1024), (0, 2, 3)];
+    let sheets =
+        [(0, 0, 0), (5, 0, 0), (128, 0, 1), (3, 0, 1024), (0, 1, 0), (7, 256, 0), (127, 256, 1024), (0, 2, 3), (1, 255, 9), (2, 128, 0)];
     for (lots, conditions, records) in sheets {
         for (other_lots, other_conditions, other_records) in sheets {
             let (first, second) = (none(lots, conditions, records), none(other_lots, other_conditions, other_records));
-            let expected = none(lots.max(other_lots), (conditions + other_conditions).min(1), 0);
-            let after = merged(&first, &second, &[0xD4; 9]);
-            assert_eq!(after.answer, [0, expected.len() as u32, 0, 0]);
-            assert_eq!(after.out, [expected.as_slice(), &[0xD4; 9][expected.len()..]].concat());
+            let both = conditions + other_conditions;
+            let expected = if both > MOST_CONDITIONS { vec![] } else { none(lots.max(other_lots), both, 0) };
+            let answer = if both > MOST_CONDITIONS { [18, 2, 0, 0] } else { [0, expected.len() as u32, 0, 0] };
+            let after = merged(&first, &second, &[0xD4; 530]);
+            assert_eq!((after.answer, after.out), (answer, [expected.as_slice(), &[0xD4; 530][expected.len()..]].concat()));
             run(&first, &second, &mut random, &mut Seen::default());
         }
     }
@@ -212,8 +217,10 @@ fn what_differs_in_anything_is_no_repeat() {
             come_to(from_ref(&condition), from_ref(other), &[condition.clone(), other.clone()], &mut random);
             come_to(&[other.clone(), condition.clone()], &[], &[other.clone(), condition.clone()], &mut random);
         }
-        come_to(&all, &others, &all, &mut random);
-        come_to(&[], &[all.clone(), all.clone()].concat(), &all, &mut random);
+        // Of all of them once more, the withdrawn one stays again.
+        let with_one_more = [all.as_slice(), &[vec![]]].concat();
+        come_to(&all, &others, &with_one_more, &mut random);
+        come_to(&[], &[all.clone(), all.clone()].concat(), &with_one_more, &mut random);
     });
 }
 
