@@ -19,3 +19,4 @@ pub mod run;
 pub mod sheets;
 pub mod tally;
 pub mod tree;
+pub mod withdrawn_pairs;

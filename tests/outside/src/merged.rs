@@ -3,8 +3,8 @@ use crate::compare::{guarded, plain, same, same_bytes};
 use crate::guarded::Guarded;
 use crate::random::Random;
 use lihumbay::raw;
-use second::answer::Refusal;
-use second::merge::{MergeRefusal, merge_numbers};
+use second::answer::{Answer, Refusal};
+use second::merge::{MergeRefusal, merge_numbers, merge_where};
 use std::hint::black_box;
 
 /// What a merge answers and leaves behind.
@@ -44,17 +44,27 @@ pub fn compare_merge(first: &[u8], second: &[u8], before: &[u8]) -> Result<[u32;
 
 /// The length that 19 asks for, or that of both sheets where they are refused otherwise.
 pub fn merged_length(first: &[u8], second: &[u8]) -> usize {
-    match second::merge(first, second, &mut []) {
-        Err(MergeRefusal { refusal: Refusal { check: 19, place }, .. }) => place,
-        _ => first.len() + second.len(),
+    length_asked(second::merge(first, second, &mut [])).unwrap_or(first.len() + second.len())
+}
+
+/// What 19 would ask for if any condition might be left out as a repeat: of all that are withdrawn one stays, so that it may be shorter. It is at most
+/// `merged_length`.
+pub fn length_by_request_4(first: &[u8], second: &[u8]) -> usize {
+    length_asked(merge_where(|_| true, first, second, &mut [])).unwrap_or(usize::MAX).min(merged_length(first, second))
+}
+
+fn length_asked(answer: Result<Answer, MergeRefusal>) -> Option<usize> {
+    match answer {
+        Err(MergeRefusal { refusal: Refusal { check: 19, place }, .. }) => Some(place),
+        _ => None,
     }
 }
 
-/// Both implementations with no output, one that is a byte too short, one that fits, and longer ones, all with random bytes in them. Now and then the low 16
-/// bits of the length alone would be too short.
+/// Both implementations with no output, one that is a byte too short, one that fits, and longer ones, all with random bytes in them; also with one that is too
+/// short by withdrawn conditions alone, where there are such. Now and then the low 16 bits of the length alone would be too short.
 pub fn compare_lengths(first: &[u8], second: &[u8], random: &mut Random) -> Result<Vec<[u32; 4]>, String> {
-    let exact = merged_length(first, second);
+    let (exact, shorter) = (merged_length(first, second), length_by_request_4(first, second));
     let long = if random.chance(1) { (1 << 16) + random.below(exact + 1) } else { exact + random.range(2, 60) };
-    let lengths = [0, random.below(exact + 1), exact.saturating_sub(1), exact, exact + 1, long];
+    let lengths = [0, random.below(exact + 1), random.range(shorter, exact), exact.saturating_sub(1), exact, exact + 1, long];
     lengths.into_iter().map(|length| compare_merge(first, second, &random.bytes(length))).collect()
 }

@@ -1,4 +1,4 @@
-//! Pairs of sheets with conditions in common, or with conditions that are nearly alike.
+//! Pairs of sheets with conditions in common, or with conditions that are nearly alike, and with withdrawn ones among them.
 use crate::damage::Damaged;
 use crate::random::Random;
 use crate::sheets::write_in_some_order;
@@ -6,6 +6,7 @@ use second::limits::{MOST_CONDITIONS, MOST_LOTS, MOST_TERMS};
 use second::sheet::{Sign, Term};
 use second::writer::{apart, same};
 use std::ops::RangeInclusive;
+use std::slice::from_ref;
 
 pub type Conditions = Vec<Vec<Term>>;
 
@@ -15,7 +16,7 @@ pub struct Pair {
 }
 
 /// Few lots and few different conditions, so that most are repeats, within a sheet and across. Half of the pairs have lot 0 among their lots, and of these some
-/// have no other.
+/// have no other. More than half of the sheets have withdrawn conditions put in.
 pub fn small(random: &mut Random) -> Pair {
     let lowest = random.below(2);
     let lots = random.range(lowest, 4);
@@ -25,9 +26,26 @@ pub fn small(random: &mut Random) -> Pair {
     pool.extend(alike);
     let mut sheet = |most: usize| {
         let drawn: Conditions = (0..random.below(most + 1)).map(|_| pool[random.below(pool.len())].clone()).collect();
-        write_in_some_order(lots + random.below(3), &drawn, random)
+        let withdrawn = random.pick(&[0, 0, 1, 2, 4]);
+        let conditions = with_withdrawn(drawn, withdrawn, random);
+        write_in_some_order(lots + random.below(3), &conditions, random)
     };
     Pair { first: sheet(7), second: sheet(7) }
+}
+
+/// The conditions with so many withdrawn ones at the beginning, at the end, one behind the other somewhere between, or each anywhere.
+pub fn with_withdrawn(mut conditions: Conditions, count: usize, random: &mut Random) -> Conditions {
+    let (way, between) = (random.below(4), random.below(conditions.len() + 1));
+    for _ in 0..count {
+        let at = match way {
+            0 => 0,
+            1 => conditions.len(),
+            2 => between,
+            _ => random.below(conditions.len() + 1),
+        };
+        conditions.insert(at, vec![]);
+    }
+    conditions
 }
 
 /// Conditions and terms around the most that a merged sheet can have, in sheets that have up to the most themselves.
@@ -92,7 +110,7 @@ fn condition(lots: &RangeInclusive<usize>, longest: usize, random: &mut Random) 
     (0..length).map(|_| term(lots, random)).collect()
 }
 
-fn term(lots: &RangeInclusive<usize>, random: &mut Random) -> Term {
+pub(crate) fn term(lots: &RangeInclusive<usize>, random: &mut Random) -> Term {
     let (a, b) = (random.within(lots), random.within(lots));
     if random.chance(50) { same(a, b) } else { apart(a, b) }
 }
@@ -115,4 +133,15 @@ pub fn nearly(condition: &[Term], random: &mut Random) -> Vec<Term> {
         _ => drop(terms.pop()),
     }
     terms
+}
+
+/// All lists of up to `length` values out of `values`.
+pub fn lists<T: Clone>(values: &[T], length: usize) -> Vec<Vec<T>> {
+    let mut all = vec![vec![]];
+    let mut longest = all.clone();
+    for _ in 0..length {
+        longest = longest.iter().flat_map(|list| values.iter().map(move |value| [list.as_slice(), from_ref(value)].concat())).collect();
+        all.extend_from_slice(&longest);
+    }
+    all
 }

@@ -3,9 +3,10 @@
 use outside::merge_expected::{above, come_to, different, long};
 use outside::merge_run::{Seen, run, run_pairs};
 use outside::merged::{compare_merge, merged};
-use outside::pairs::{Conditions, Pair, damaged, large, small};
+use outside::pairs::{Conditions, Pair, damaged, large, lists, small};
 use outside::random::Random;
 use outside::run::{say, with_stack};
+use outside::withdrawn_pairs::{around_both_limits, around_most_conditions};
 use second::limits::{MOST_CONDITIONS, MOST_TERMS};
 use second::sheet::Term;
 use second::writer::{apart, same, sheet_bytes, sheet_bytes_among, sheet_bytes_in};
@@ -29,6 +30,27 @@ fn pairs_of_sheets_up_to_the_limits() {
         seen.at_least(100, 19, 0, 0);
         seen.at_least(100, 18, 0, 2);
         seen.at_least(100, 18, 0, 3);
+    });
+}
+
+#[test]
+fn withdrawn_conditions_up_to_the_most() {
+    with_stack(|| {
+        let seen = run_pairs("pairs with withdrawn conditions around the most", 1_000, 82, around_most_conditions);
+        seen.at_least(1_000, 0, 0, 0);
+        seen.at_least(1_000, 19, 0, 0);
+        seen.at_least(1_000, 18, 0, 2);
+    });
+}
+
+#[test]
+fn withdrawn_conditions_and_terms_up_to_the_most() {
+    with_stack(|| {
+        let seen = run_pairs("pairs with withdrawn conditions and terms around the most", 1_000, 83, around_both_limits);
+        seen.at_least(500, 0, 0, 0);
+        seen.at_least(500, 19, 0, 0);
+        seen.at_least(500, 18, 0, 2);
+        seen.at_least(500, 18, 0, 3);
     });
 }
 
@@ -257,17 +279,6 @@ fn long_common_beginnings() {
             come_to(&turned, &conditions, &turned, &mut random);
         }
     });
-}
-
-/// All lists of up to `length` values out of `values`.
-fn lists<T: Clone>(values: &[T], length: usize) -> Vec<Vec<T>> {
-    let mut all = vec![vec![]];
-    let mut longest = all.clone();
-    for _ in 0..length {
-        longest = longest.iter().flat_map(|list| values.iter().map(move |value| [list.as_slice(), from_ref(value)].concat())).collect();
-        all.extend_from_slice(&longest);
-    }
-    all
 }
 
 /// Every two sheets of 2 lots with up to three conditions out of seven, those of up to two terms "same 1 2" and "apart 1 2". The records of the first stand
