@@ -18,5 +18,6 @@ pub mod random;
 pub mod run;
 pub mod sheets;
 pub mod tally;
+pub mod together;
 pub mod tree;
 pub mod withdrawn_pairs;

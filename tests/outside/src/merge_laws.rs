@@ -4,6 +4,7 @@ use crate::compare::{plain, same};
 use crate::laws::{AROUND, among, groupings};
 use crate::merged::merged;
 use crate::random::Random;
+use crate::together::Together;
 use lihumbay::raw;
 use second::limits::{MOST_CONDITIONS, MOST_LOTS, NODE_LENGTH};
 use second::reader::accept;
@@ -33,12 +34,14 @@ pub fn merge_laws(first: &[u8], second: &[u8], random: &mut Random) -> Result<Tr
     met_by_both(first, second, &whole, random)
 }
 
-/// A refusal with no room is the reader's of the first sheet, or of the second where the first is accepted, or 18 where both are.
+/// A refusal with no room is the reader's of the first sheet, or of the second where the first is accepted, or 18 where both are and hold too much.
 fn refused_as_read(first: &[u8], second: &[u8], asked: [u32; 4]) -> Result<(), String> {
     let (one, other) = (plain(raw::read(first)), plain(raw::read(second)));
-    let expected = match (one[0], other[0], asked) {
-        (0, 0, [18, 2 | 3, 0, 0]) => asked,
-        (0, 0, _) => return Err(format!("two sheets that are accepted give {asked:?} with no room")),
+    let expected = match (one[0], other[0], Together::of(first, second).and_then(|both| both.place_of_18())) {
+        (0, 0, Some(place)) => [18, place, 0, 0],
+        (0, 0, None) => {
+            return Err(format!("two sheets that are accepted, and hold no more than there may be, give {asked:?} with no room"));
+        }
         (0, _, _) => [other[0], other[1], 2, 0],
         _ => [one[0], one[1], 1, 0],
     };

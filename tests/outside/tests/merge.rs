@@ -6,6 +6,7 @@ use outside::merged::{compare_merge, merged};
 use outside::pairs::{Conditions, Pair, damaged, large, lists, small};
 use outside::random::Random;
 use outside::run::{say, with_stack};
+use outside::together::compare_rules;
 use outside::withdrawn_pairs::{around_both_limits, around_most_conditions};
 use second::limits::{MOST_CONDITIONS, MOST_TERMS};
 use second::sheet::Term;
@@ -302,8 +303,8 @@ fn all_pairs(lots: usize, terms: &[Term; 2]) {
     let seconds: Vec<Vec<u8>> = sheets.iter().map(|conditions| sheet_bytes(lots, conditions)).collect();
     for first in &firsts {
         for second in &seconds {
-            let answer = compare_merge(first, second, &[0x9D; 120]).unwrap_or_else(|why| panic!("{why}\n{first:02x?}\n{second:02x?}"));
-            assert_eq!(answer[0], 0);
+            let answers = compare_rules(first, second, &[0x9D; 120]).unwrap_or_else(|why| panic!("{why}\n{first:02x?}\n{second:02x?}"));
+            assert_eq!(answers.archive[0], 0);
         }
     }
     say(&format!("{} pairs of sheets of {lots} lots, all with up to three conditions of up to two terms", firsts.len() * seconds.len()));

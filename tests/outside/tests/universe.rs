@@ -2,9 +2,10 @@
 //! lots.
 use outside::canonical::canonical;
 use outside::case::{Case, canonical_length, probe};
-use outside::merged::{compare_merge, merged_length};
+use outside::merged::merged_length;
 use outside::run::{run_case, say, with_stack};
 use outside::tally::Tally;
+use outside::together::compare_rules;
 use second::reader::accept;
 use second::sheet::Term;
 use second::store::{Record, ground, list_bytes, met, split};
@@ -113,8 +114,8 @@ fn all_small_sheets_byte_by_byte() {
     });
 }
 
-/// Each of these sheets, accepted or not, merged with one that is accepted and with one that isn't, in both orders. The output is a byte too short where the
-/// sheet's bytes have an odd sum.
+/// Each of these sheets, accepted or not, merged with one that is accepted and has a withdrawn condition, and with one that isn't accepted, in both orders. The
+/// output is a byte too short where the sheet's bytes have an odd sum.
 #[test]
 fn all_small_sheets_merged() {
     let conditions = [vec![same(1, 1)], vec![], vec![same(1, 1), same(0, 0)], vec![same(3, 2)], vec![same(0, 0)]];
@@ -126,8 +127,8 @@ fn all_small_sheets_merged() {
         for other in [&accepted, &refused] {
             for (first, second) in [(&sheet, other), (other, &sheet)] {
                 let before = vec![0x6B; merged_length(first, second) - sum % 2];
-                let [check, _, which, _] =
-                    compare_merge(first, second, &before).unwrap_or_else(|why| panic!("{why}\n{first:02x?}\n{second:02x?}"));
+                let answers = compare_rules(first, second, &before).unwrap_or_else(|why| panic!("{why}\n{first:02x?}\n{second:02x?}"));
+                let [check, _, which, _] = answers.archive;
                 *checks.entry([check, if check == 0 { 0 } else { which }]).or_default() += 1;
             }
         }
