@@ -2,6 +2,7 @@
 use lihumbay::{WithdrawError, withdraw};
 use outside::case::Case;
 use outside::damage::Damaged;
+use outside::pairs::{self, Pair};
 use outside::random::Random;
 use outside::run::{run_case, say, with_stack};
 use outside::sheets::{cannot, large, medium, small, tiny};
@@ -85,6 +86,36 @@ fn all_conditions_withdrawn_one_by_one() {
         let packed = lihumbay::repack(&sheet).expect("an accepted sheet");
         assert_eq!(packed, [&sheet[..4], &vec![0; 2 + HEAD_LENGTH * conditions]].concat(), "lots, conditions, no record, and zero heads");
     }
+}
+
+/// A condition that comes once in two sheets is withdrawn from its sheet before they are merged, or from the merged sheet: packed, the bytes are the same,
+/// however many others are withdrawn. Its number in the merged sheet is that in the two lists, less the repeats left out before it.
+#[test]
+fn withdrawn_before_a_merge_or_after_it() {
+    let mut random = Random::new(64);
+    let (mut withdrawn, mut beside_others) = (0, 0);
+    for _ in 0..20_000 {
+        let Pair { first, second } = pairs::small(&mut random);
+        let [one, other] = [&first, &second].map(|sheet| accept(sheet).expect("a valid sheet").conditions);
+        let (own, both) = (one.len(), [one, other].concat());
+        let once = |&at: &usize| !both[at].is_empty() && both.iter().filter(|&condition| *condition == both[at]).count() == 1;
+        let choices: Vec<usize> = (0..both.len()).filter(once).collect();
+        if choices.is_empty() {
+            continue;
+        }
+        let at = random.pick(&choices);
+        let before = match at < own {
+            true => lihumbay::merge(&without(&first, at + 1), &second),
+            false => lihumbay::merge(&first, &without(&second, at + 1 - own)),
+        };
+        let repeats = (0..at).filter(|&earlier| !both[earlier].is_empty() && both[..earlier].contains(&both[earlier])).count();
+        let whole = lihumbay::merge(&first, &second).expect("two sheets that are accepted");
+        assert_eq!(before, Ok(lihumbay::repack(&without(&whole, at + 1 - repeats)).expect("a merged sheet")), "{first:02x?} {second:02x?}");
+        withdrawn += 1;
+        beside_others += usize::from(both.contains(&vec![]));
+    }
+    say(&format!("{withdrawn} conditions withdrawn before a merge and after it, {beside_others} of them beside others"));
+    assert!(withdrawn > 5_000 && beside_others > 3_000);
 }
 
 #[test]
