@@ -195,6 +195,22 @@ static void merge(void) {
     expect("no byte changed", memcmp(out, sheet_c, sizeof sheet_c) == 0 && all(out, 34, 64, 170));
 }
 
+/* Sheet C with condition 1 withdrawn, merged with itself: condition 2 is a repeat, and the withdrawn one stays both times. */
+static const uint8_t withdrawn_twice[] = {3, 0, 3, 0, 1, 0, 0, 0, 1, 0, 0, 0, 2, 0, 1, 0, 2, 0, 0, 0};
+
+static void merge_withdrawn(void) {
+    static const uint8_t most[6 + 2 * 256] = {0, 0, 0, 1}, empty[6] = {0};
+    uint8_t out[22], again[sizeof most];
+    memset(out, 170, sizeof out);
+    expect("merge, a withdrawn place too short", is(lihumbay_merge(withdrawn_c, 34, withdrawn_c, 34, out, 19), 19, 20, 0, 0));
+    expect("merge, a withdrawn place too many", is(lihumbay_merge(most, sizeof most, withdrawn_c, 34, out, sizeof out), 18, 2, 0, 0));
+    expect("nothing written", all(out, 0, 22, 170));
+    expect("merge withdrawn conditions", is(lihumbay_merge(withdrawn_c, 34, withdrawn_c, 34, out, 20), 0, 20, 0, 0));
+    expect("its sheet", memcmp(out, withdrawn_twice, sizeof withdrawn_twice) == 0 && all(out, 20, 22, 170));
+    expect("merge 256 of them", is(lihumbay_merge(most, sizeof most, empty, sizeof empty, again, sizeof again), 0, sizeof most, 0, 0));
+    expect("no byte changed", memcmp(again, most, sizeof most) == 0);
+}
+
 /* A sheet of 256 conditions, merged with another condition, and one of 1,024 terms in one condition, merged with another term. */
 static void merge_limits(void) {
     static uint8_t conditions[6 + 2 * 256 + 8 * 256], terms[6 + 2 + 8 * 1024], out[sizeof terms];
@@ -277,6 +293,7 @@ int main(void) {
     repacker();
     withdrawn();
     merge();
+    merge_withdrawn();
     merge_limits();
     zero_lot();
     zero_lot_alone();

@@ -17,6 +17,10 @@ int main() {
     std::vector<std::uint8_t> both(35, 170);
     const lihumbay_numbers merged = lihumbay_merge(sheet.data(), sheet.size(), sheet.data(), sheet.size(), both.data(), both.size());
     const lihumbay_numbers cut = lihumbay_merge(sheet.data(), sheet.size(), sheet.data(), 33, both.data(), both.size());
+    const std::array<std::uint8_t, 8> head_zero = {0, 0, 1, 0, 0, 0, 0, 0};
+    std::vector<std::uint8_t> heads(11, 170);
+    const lihumbay_numbers twice = lihumbay_merge(head_zero.data(), head_zero.size(), head_zero.data(), head_zero.size(), heads.data(), heads.size());
+    const bool both_stay = twice.check == 0 && twice.first == 10 && heads == std::vector<std::uint8_t>{0, 0, 2, 0, 0, 0, 0, 0, 0, 0, 170};
     const std::array<std::uint8_t, 34> lower = {2, 0, 2, 0, 3, 0, 1, 0, 3, 0, 1, 0, 0, 0, 1, 0, 2, 0, 1, 0, 0, 0, 2, 0, 0, 0, 2, 0, 0, 0, 1, 0, 0, 0};
     std::vector<std::uint8_t> lower_grouping(3, 170);
     const lihumbay_numbers zero = lihumbay_search(lower.data(), lower.size(), lower_grouping.data(), lower_grouping.size(), store.data(), 32);
@@ -29,7 +33,8 @@ int main() {
     const bool one_sheet = merged.check == 0 && merged.first == 34 && merged.second == 0 && both == out;
     const bool second_named = cut.check == 3 && cut.first == 0 && cut.second == 2 && cut.third == 0;
     const bool all_met = evaluated.check == 0 && evaluated.first == 0;
-    const bool ok = accepted && met && written && no_refutation && canonical && one_sheet && second_named && zero_lot && all_met;
+    const bool merges = one_sheet && second_named && both_stay;
+    const bool ok = accepted && met && written && no_refutation && canonical && merges && zero_lot && all_met;
     std::cout << (ok ? "calls from C++: ok\n" : "calls from C++: FAILED\n");
     return ok ? 0 : 1;
 }

@@ -66,8 +66,11 @@ def reordered(repack):
     assert short == b"\xaa" * 33
 
 
+C_WITHDRAWN = bytes.fromhex("030002000300 00000300 0000000000000000 0000000000000000 0200010002000000")
+
+
 def withdrawn(read, search, evaluate, check, repack):
-    sheet = bytes.fromhex("030002000300 00000300 0000000000000000 0000000000000000 0200010002000000")
+    sheet = C_WITHDRAWN
     grouping, store, out = bytearray(3), bytearray(8), bytearray(18)
     assert read(sheet) == (0, 3, 2, 3)
     assert search(sheet, grouping, store) == (0, 1, 1, 0)
@@ -92,6 +95,16 @@ def merged(merge):
     assert short == b"\xaa" * 61
     assert merge(C, C_IN_ANOTHER_ORDER, short) == (0, 34, 0, 0)
     assert short == C + b"\xaa" * 27
+
+
+def merged_withdrawn(merge):
+    out = bytearray(b"\xaa" * 22)
+    assert merge(C_WITHDRAWN, C_WITHDRAWN, bytearray(19)) == (19, 20, 0, 0)
+    assert merge(C_WITHDRAWN, C_WITHDRAWN, out) == (0, 20, 0, 0)
+    assert out == bytes.fromhex("030003000100 000001000000 0200010002000000") + b"\xaa" * 2
+    most = bytes([0, 0, 0, 1]) + bytes(514)
+    assert merge(most, C_WITHDRAWN, out) == (18, 2, 0, 0)
+    assert merge(most[:2] + bytes([255, 0]) + most[4:516], bytes([0, 0, 1, 0, 0, 0, 0, 0]), bytearray(518)) == (0, 518, 0, 0)
 
 
 def zero_lot(read, search, evaluate, check):
@@ -121,7 +134,9 @@ def main():
     repack = service(library, "lihumbay_repack", 2)
     reordered(repack)
     withdrawn(read, search, evaluate, check, repack)
-    merged(service(library, "lihumbay_merge", 3))
+    merge = service(library, "lihumbay_merge", 3)
+    merged(merge)
+    merged_withdrawn(merge)
     zero_lot(read, search, evaluate, check)
     print("calls from Python: ok")
 
