@@ -4,7 +4,8 @@ use lihumbay::raw;
 use outside::compare::plain;
 use outside::families::{DEEPEST, deep, joined, lowered};
 use outside::random::Random;
-use second::limits::{MOST_CONDITIONS, MOST_NODES, MOST_TERMS, NODE_LENGTH};
+use second::limits::{HEAD_LENGTH, MOST_CONDITIONS, MOST_NODES, MOST_TERMS, NODE_LENGTH};
+use second::reader::accept;
 use second::writer::{same, sheet_bytes, sheet_bytes_in};
 use std::thread;
 
@@ -28,13 +29,16 @@ fn searched(sheet: Vec<u8>) -> ([u32; 4], Vec<u8>) {
 
 /// The services that don't search: the checker on the list that the search wrote, the others on its sheet.
 fn others(sheet: Vec<u8>, list: Vec<u8>) {
+    // Merged with itself, the sheet has the heads of its withdrawn conditions once more.
+    let withdrawn = accept(&sheet).expect("a valid sheet").conditions.iter().filter(|condition| condition.is_empty()).count();
+    let twice = sheet.len() + HEAD_LENGTH * withdrawn;
     on_stack(OTHERS, move || {
         assert_eq!(plain(raw::read(&sheet))[0], 0);
         assert_eq!(plain(raw::check(&sheet, &list)), [0; 4]);
         assert_eq!(plain(raw::evaluate(&sheet, &[1; 128]))[0], 0);
-        let mut out = vec![0; sheet.len()];
+        let mut out = vec![0; twice];
         assert_eq!(plain(raw::repack(&sheet, &mut out)), [0, sheet.len() as u32, 0, 0]);
-        assert_eq!(plain(raw::merge(&sheet, &sheet, &mut out)), [0, sheet.len() as u32, 0, 0]);
+        assert_eq!(plain(raw::merge(&sheet, &sheet, &mut out)), [0, twice as u32, 0, 0]);
     });
 }
 
@@ -48,6 +52,23 @@ fn merges_of_the_longest_sheets_fit() {
         let mut out = vec![0; first.len()];
         assert_eq!(plain(raw::merge(&first, &first, &mut out)), [0, first.len() as u32, 0, 0]);
         assert_eq!(plain(raw::merge(&first, &second, &mut out)), [18, 2, 0, 0]);
+    });
+}
+
+/// As many conditions as there may be, all of them withdrawn but one, which has as many terms as there may be; and as many withdrawn ones in each of two
+/// sheets.
+#[test]
+fn merges_of_the_most_withdrawn_conditions_fit() {
+    let with_terms = sheet_bytes(128, &[vec![same(1, 2); MOST_TERMS]]);
+    let withdrawn = |count: usize| sheet_bytes(128, &vec![vec![]; count]);
+    let (others, all) = (withdrawn(MOST_CONDITIONS - 1), withdrawn(MOST_CONDITIONS));
+    let longest = with_terms.len() + HEAD_LENGTH * (MOST_CONDITIONS - 1);
+    on_stack(OTHERS, move || {
+        let mut out = vec![0; longest];
+        assert_eq!(plain(raw::merge(&with_terms, &others, &mut out)), [0, longest as u32, 0, 0]);
+        assert_eq!(plain(raw::merge(&others, &with_terms, &mut out)), [0, longest as u32, 0, 0]);
+        assert_eq!(plain(raw::merge(&all, &with_terms, &mut out)), [18, 2, 0, 0]);
+        assert_eq!(plain(raw::merge(&all, &all, &mut out)), [18, 2, 0, 0]);
     });
 }
 
