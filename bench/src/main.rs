@@ -40,6 +40,7 @@ use std::process::ExitCode;
 const USAGE: &str = "measure all [quick]       compare, time, count instructions, run z3 and the stack test, write data, plots and tables
 measure sizes             count the instructions of a node against the sizes of a sheet, and write its table
 measure places            count the instructions of an evaluation against the place of the first true term, and write its table
+measure z3                run z3 beside the product's times that are there, and write its table
 measure report            write the plots and tables again from the data
 measure row SERVICE KEY   time one input alone, and write nothing
 measure compare           compare alone
@@ -53,6 +54,7 @@ fn main() -> ExitCode {
         ["all", "quick"] => report::measure(rounds::Plan { rounds: 3, batch: 0.02 }),
         ["sizes"] => report::measure_sizes(),
         ["places"] => report::measure_places(),
+        ["z3"] => report::measure_beside_z3(),
         ["report"] => report::write(),
         ["row", service, key] => report::time_row(service, key),
         ["compare"] => report::compare_all(),

@@ -173,6 +173,12 @@ pub fn measure_places() {
     write();
 }
 
+/// z3 on the sheets of the searches, beside the product's times that are there.
+pub fn measure_beside_z3() {
+    save("z3.tsv", &measure_z3(&rows::read(&load("times.tsv"))));
+    write();
+}
+
 /// The plots and the tables, from the data.
 pub fn write() {
     let rows = rows::read(&load("times.tsv"));
