@@ -7,7 +7,7 @@ use lib.ListN.{length, length-append}
 use Rattle.sheet.specs.Conditions.{Term, same, apart}
 use Rattle.equality.specs.Node.{Decisions, split, node}
 use Rattle.equality.specs.Search.{Tree, nodeCount, sameTerms, nodeRule, allSameTerms, searchTree}
-use Rattle.equality.specs.Visits.{Visits, visits-met, visits-ground, visits-one, visits-two}
+use Rattle.equality.specs.Visits.{Visits, visits-met, visits-ground, visits-clique, visits-one, visits-two}
 use Rattle.equality.proofs.Visits.{search-visits}
 
 -- "Same" terms are terms.
@@ -29,6 +29,7 @@ module _ (tss : List (List Term)) (φ : Decisions → ℕ) (positive : (ds : Dec
   unfolding nodeCount
   count-under {ds} (visits-met e) = omega (arith, positive ds)
   count-under {ds} (visits-ground e) = omega (arith, positive ds)
+  count-under {ds} (visits-clique e) = omega (arith, positive ds)
   count-under {ds} (visits-one {a = a} {b = b} e v m) = omega (arith, count-under v, positive (apart a b ∷ ds), shared ds a b e)
   count-under {ds} (visits-two {a = a} {b = b} e v m w) = omega (arith, count-under v, count-under w, shared ds a b e)
 

@@ -6,10 +6,10 @@ use mathlib.Core.List.{List, [], _∷_}
 use mathlib.Core.Logic.{_≢_, _↔_}
 use mathlib.Core.Path.{_≡_, refl, sym, _∙_}
 use native.Mathlib.Decide.{ℕ-discrete}
-use Rattle.sheet.specs.Conditions.{Term}
+use Rattle.sheet.specs.Conditions.{Term, same}
 use Rattle.buffers.specs.Lists.{All}
 use Rattle.equality.specs.Meaning.{Holds, someTerm, MeetsCondition, MeetsAll, Assignment, meetsAll}
-use Rattle.equality.specs.Node.{Decisions, Respects, smallestLot, isFalse, value, trueOrOpenApart, passedOver}
+use Rattle.equality.specs.Node.{Decisions, Respects, smallestLot, isFalse, value, trueOrOpenApart, noCondition, passedOver, taken, Node, ground, split, clique, node}
 use Rattle.equality.specs.Search.{Tree, isMet, metDecisions, nodeRule, searchTree}
 use Rattle.equality.proofs.Meaning.{all-decides}
 use Rattle.equality.proofs.Some.{none-some}
@@ -17,10 +17,10 @@ use Rattle.equality.specs.Opens.{Small}
 use Rattle.equality.proofs.Classes.{Says, value-says}
 use Rattle.equality.proofs.Least.{zero-class}
 use Rattle.equality.proofs.Node.{passed-by-classes}
-use Rattle.equality.proofs.Rule.{GroundAt, met-passed, ground-at, ground-false, split-at}
+use Rattle.equality.proofs.Rule.{taken-none, GroundAt, met-passed, ground-at, ground-false, split-at, never-clique}
 use Rattle.buffers.proofs.Lists.{all-two, all-at}
 use Rattle.equality.proofs.Opens.{split-all}
-use Rattle.equality.specs.Visits.{Visits, visits-met, visits-ground, visits-one, visits-two}
+use Rattle.equality.specs.Visits.{Visits, visits-met, visits-ground, visits-clique, visits-one, visits-two}
 use Rattle.equality.proofs.Visits.{met-rule, search-visits}
 
 -- ---- met
@@ -29,6 +29,10 @@ passed-meets : (ds : Decisions) (tss : List (List Term)) → All (λ ts. passedO
 unfolding meetsAll
 passed-meets ds [] all = refl
 passed-meets ds (ts ∷ tss) all = rw (sym (passed-by-classes ds ts) ∙ all .0) (passed-meets ds tss (all .1))
+
+-- Where no condition is taken, the classes meet them all.
+pub none-taken : (ds : Decisions) (tss : List (List Term)) → taken ds 1 tss ≡ noCondition → meetsAll (smallestLot ds) tss ≡ true
+none-taken ds tss e = passed-meets ds tss (taken-none ds 1 tss e)
 
 -- The classes of a tree's met node meet the conditions.
 pub met-meets : (tss : List (List Term)) {ds : Decisions} {t : Tree} → Visits (nodeRule tss) ds t → isMet t ≡ true → meetsAll (smallestLot (metDecisions t)) tss ≡ true
@@ -45,12 +49,31 @@ module _ {A : Type 0} (f : ℕ → A) (ds : Decisions) (small : All Small ds) (r
       false-says : (t : Term) → Small t → value ds t ≡ isFalse → ¬ Holds f t
       false-says t small′ e = let says : Says f ds small respects isFalse t = rw e at (value-says f ds small respects t small′) in says
 
-module _ {A : Type 0} (decide : (x y : A) → Dec (x ≡ y)) (f : ℕ → A) (tss : List (List Term)) (smalls : All (All Small) tss) where
-  -- Theorem 3, under any decisions.
-  pub cannot-under : {ds : Decisions} {t : Tree} → Visits (nodeRule tss) ds t → isMet t ≡ false → All Small ds → Respects f ds → ¬ MeetsAll f tss
+-- For every rule: where no node is met, what grounds and cliques exclude is excluded, whatever it is.
+module _ (rule : Decisions → Node) {A : Type 0} (decide : (x y : A) → Dec (x ≡ y)) (f : ℕ → A) (Wanted : Type 0)
+    (splits : (ds : Decisions) (a b : ℕ) → rule ds ≡ split a b → Small (same a b))
+    (grounds : (ds : Decisions) → All Small ds → Respects f ds → (c : ℕ) → rule ds ≡ ground c → ¬ Wanted)
+    (cliques : (ds : Decisions) → All Small ds → Respects f ds → rule ds ≡ clique → ¬ Wanted) where
+  pub cannot-rule : {ds : Decisions} {t : Tree} → Visits rule ds t → isMet t ≡ false → All Small ds → Respects f ds → ¬ Wanted
   unfolding isMet Respects
-  cannot-under (visits-met e) m small respects meets′ = false≢true (sym m)
-  cannot-under {ds} (visits-ground {c = c} e) m small respects meets′ = grounded (ground-at ds tss c e)
+  cannot-rule (visits-met e) m small respects wanted = false≢true (sym m)
+  cannot-rule {ds} (visits-ground {c = c} e) m small respects wanted = grounds ds small respects c e wanted
+  cannot-rule {ds} (visits-clique e) m small respects wanted = cliques ds small respects e wanted
+  cannot-rule (visits-one e v q) m small respects wanted = false≢true (sym m ∙ q)
+  cannot-rule {ds} (visits-two {a = a} {b = b} e v q w) m small respects wanted =
+      let pair = splits ds a b e in
+      branch (decide (f a) (f b))
+      (λ equal. cannot-rule v q (pair, small) (equal, respects) wanted)
+      (λ differ. cannot-rule w m (pair, small) (differ, respects) wanted)
+    where
+      branch : Dec (f a ≡ f b) → (f a ≡ f b → ⊥) → (f a ≢ f b → ⊥) → ⊥
+      branch (yes e) equal differ = equal e
+      branch (no e) equal differ = differ e
+
+module _ {A : Type 0} (f : ℕ → A) (tss : List (List Term)) (smalls : All (All Small) tss) where
+  -- A ground's condition is not met.
+  pub ground-unmet : (ds : Decisions) → All Small ds → Respects f ds → (c : ℕ) → node ds tss ≡ ground c → ¬ MeetsAll f tss
+  ground-unmet ds small respects c e meets′ = grounded (ground-at ds tss c e)
     where
       grounded : GroundAt ds tss c → ⊥
       grounded at =
@@ -59,16 +82,14 @@ module _ {A : Type 0} (decide : (x y : A) → Dec (x ≡ y)) (f : ℕ → A) (ts
           (all-at (All Small) (at .taken .front) (at .terms) (at .taken .back) (rw placed at smalls))
           (ground-false at)
           (all-at (MeetsCondition f) (at .taken .front) (at .terms) (at .taken .back) (rw placed at meets′))
-  cannot-under (visits-one e v q) m small respects meets′ = false≢true (sym m ∙ q)
-  cannot-under {ds} (visits-two {a = a} {b = b} e v q w) m small respects meets′ =
-      let pair = split-all ds tss a b (split-at ds tss a b e) Small smalls in
-      branch (decide (f a) (f b))
-      (λ equal. cannot-under v q (pair, small) (equal, respects) meets′)
-      (λ differ. cannot-under w m (pair, small) (differ, respects) meets′)
-    where
-      branch : Dec (f a ≡ f b) → (f a ≡ f b → ⊥) → (f a ≢ f b → ⊥) → ⊥
-      branch (yes e) equal differ = equal e
-      branch (no e) equal differ = differ e
+
+  -- Theorem 3, under any decisions.
+  pub cannot-under : ((x y : A) → Dec (x ≡ y)) → {ds : Decisions} {t : Tree} → Visits (nodeRule tss) ds t → isMet t ≡ false → All Small ds → Respects f ds → ¬ MeetsAll f tss
+  cannot-under decide =
+      cannot-rule (nodeRule tss) decide f (MeetsAll f tss)
+      (λ ds a b e. split-all ds tss a b (split-at ds tss a b e) Small smalls)
+      ground-unmet
+      (λ ds small respects e. absurd (never-clique ds tss e))
 
 -- ---- the search
 
@@ -80,7 +101,7 @@ module _ (tss : List (List Term)) (smalls : All (All Small) tss) where
   -- Theorem 3: where it meets none, no assignment meets them, with values of any type whose equality is decidable.
   pub search-cannot : isMet (searchTree tss) ≡ false → {A : Type 0} → ((x y : A) → Dec (x ≡ y)) → (f : ℕ → A) → ¬ MeetsAll f tss
   unfolding Respects
-  search-cannot m decide f = cannot-under decide f tss smalls (search-visits tss) m tt tt
+  search-cannot m decide f = cannot-under f tss smalls decide (search-visits tss) m tt tt
 
   -- So the search meets a node where any assignment meets the conditions, whichever value lot 0 has,
   pub any-met : {A : Type 0} → ((x y : A) → Dec (x ≡ y)) → (f : ℕ → A) → MeetsAll f tss → isMet (searchTree tss) ≡ true

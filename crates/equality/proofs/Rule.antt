@@ -9,7 +9,7 @@ use lib.ListN.{length}
 use Rattle.sheet.specs.Conditions.{Term, same, apart}
 use Rattle.buffers.specs.Lists.{All}
 use Rattle.buffers.proofs.Lists.{all-two}
-use Rattle.equality.specs.Node.{Decisions, markedApart, Value, isTrue, isFalse, isOpen, value, Taken, noCondition, takes, passedOver, taken, met, ground, split, splitOn, openOr, groundOrSplit, nodeOf, node}
+use Rattle.equality.specs.Node.{Decisions, markedApart, Value, isTrue, isFalse, isOpen, value, Taken, noCondition, takes, passedOver, taken, Node, met, ground, split, clique, splitOn, openOr, groundOrSplit, nodeOf, node}
 use Rattle.equality.proofs.Node.{openSame, taken-values}
 
 -- ---- the taken condition
@@ -141,19 +141,29 @@ module _ (ds : Decisions) (c : ℕ) where
 
 -- ---- the node
 
-split-met : (t : Term) → splitOn t ≡ met → ⊥
-split-met (same a b) e = let z : _≡_ {A = ℕ} 0 1 = cc in omega arith
-split-met (apart a b) e = let z : _≡_ {A = ℕ} 0 1 = cc in omega arith
+-- The node of a condition that is taken is a ground or a split: what holds of these holds of it.
+pub taken-node : (P : Node → Type 0) (ds : Decisions) (c : ℕ) → P (ground c) → ((a b : ℕ) → P (split a b)) → (ts : List Term) → P (groundOrSplit ds c ts)
+unfolding groundOrSplit
+taken-node P ds c grounds splits [] = grounds
+taken-node P ds c grounds splits (t ∷ ts) = go t (value ds t) (taken-node P ds c grounds splits ts)
+  where
+    go : (u : Term) (v : Value) → P (groundOrSplit ds c ts) → P (openOr u v (groundOrSplit ds c ts))
+    go u isTrue rest = rest
+    go u isFalse rest = rest
+    go (same a b) isOpen rest = splits a b
+    go (apart a b) isOpen rest = splits a b
 
 taken-not-met : (ds : Decisions) (c : ℕ) (ts : List Term) → groundOrSplit ds c ts ≡ met → ⊥
-unfolding groundOrSplit
-taken-not-met ds c [] e = let z : _≡_ {A = ℕ} 0 1 = cc in omega arith
-taken-not-met ds c (t ∷ ts) e = go (value ds t) e (taken-not-met ds c ts)
-  where
-    go : (v : Value) → openOr t v (groundOrSplit ds c ts) ≡ met → (groundOrSplit ds c ts ≡ met → ⊥) → ⊥
-    go isTrue e rest = rest e
-    go isFalse e rest = rest e
-    go isOpen e rest = split-met t e
+taken-not-met ds c =
+    taken-node (λ r. r ≡ met → ⊥) ds c
+    (λ e. let z : _≡_ {A = ℕ} 0 1 = cc in omega arith)
+    (λ a b e. let z : _≡_ {A = ℕ} 0 1 = cc in omega arith)
+
+taken-not-clique : (ds : Decisions) (c : ℕ) (ts : List Term) → groundOrSplit ds c ts ≡ clique → ⊥
+taken-not-clique ds c =
+    taken-node (λ r. r ≡ clique → ⊥) ds c
+    (λ e. let z : _≡_ {A = ℕ} 0 1 = cc in omega arith)
+    (λ a b e. let z : _≡_ {A = ℕ} 0 1 = cc in omega arith)
 
 -- A ground names the condition taken, which has no open term.
 pub record GroundAt (ds : Decisions) (tss : List (List Term)) (c : ℕ) : Type 0 where
@@ -169,20 +179,33 @@ pub record SplitAt (ds : Decisions) (tss : List (List Term)) (a b : ℕ) : Type 
   pub first : OpenAt ds terms a b
 
 module _ (ds : Decisions) (tss : List (List Term)) where
-  -- At a met node every condition is passed over.
-  pub met-passed : node ds tss ≡ met → All (λ ts. passedOver ds ts ≡ true) tss
+  -- A met node takes no condition:
+  pub met-none : node ds tss ≡ met → taken ds 1 tss ≡ noCondition
   unfolding node
-  met-passed e = go (taken ds 1 tss) refl e
+  met-none e = go (taken ds 1 tss) refl e
     where
-      go : (w : Taken) → taken ds 1 tss ≡ w → nodeOf ds w ≡ met → All (λ ts. passedOver ds ts ≡ true) tss
-      go noCondition q e = taken-none ds 1 tss q
+      go : (w : Taken) → taken ds 1 tss ≡ w → nodeOf met ds w ≡ met → taken ds 1 tss ≡ noCondition
+      go noCondition q e = q
       go (takes c ts) q e = absurd (taken-not-met ds c ts e)
+
+  -- every condition is passed over.
+  pub met-passed : node ds tss ≡ met → All (λ ts. passedOver ds ts ≡ true) tss
+  met-passed e = taken-none ds 1 tss (met-none e)
+
+  -- No node is a clique without a limit.
+  pub never-clique : node ds tss ≡ clique → ⊥
+  unfolding node
+  never-clique e = go (taken ds 1 tss) e
+    where
+      go : (w : Taken) → nodeOf met ds w ≡ clique → ⊥
+      go noCondition e = let z : _≡_ {A = ℕ} 0 1 = cc in omega arith
+      go (takes c ts) e = taken-not-clique ds c ts e
 
   pub ground-at : (c : ℕ) → node ds tss ≡ ground c → GroundAt ds tss c
   unfolding node
   ground-at c e = go (taken ds 1 tss) refl e
     where
-      go : (w : Taken) → taken ds 1 tss ≡ w → nodeOf ds w ≡ ground c → GroundAt ds tss c
+      go : (w : Taken) → taken ds 1 tss ≡ w → nodeOf met ds w ≡ ground c → GroundAt ds tss c
       go noCondition q e = let z : _≡_ {A = ℕ} 0 1 = cc in absurd (omega arith)
       go (takes d ts) q e =
           let none = no-open ds d ts c e in
@@ -192,7 +215,7 @@ module _ (ds : Decisions) (tss : List (List Term)) where
   unfolding node
   split-at a b e = go (taken ds 1 tss) refl e
     where
-      go : (w : Taken) → taken ds 1 tss ≡ w → nodeOf ds w ≡ split a b → SplitAt ds tss a b
+      go : (w : Taken) → taken ds 1 tss ≡ w → nodeOf met ds w ≡ split a b → SplitAt ds tss a b
       go noCondition q e = let z : _≡_ {A = ℕ} 0 1 = cc in absurd (omega arith)
       go (takes c ts) q e =
           let at = taken-at ds 1 tss c ts q in

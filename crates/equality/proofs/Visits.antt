@@ -5,9 +5,9 @@ use mathlib.Core.List.{List, [], _∷_}
 use mathlib.Core.Path.{_≡_, refl, ap}
 use native.Mathlib.Omega.{arith}
 use Rattle.sheet.specs.Conditions.{Term, same, apart}
-use Rattle.equality.specs.Node.{Decisions, Node, met, ground, split, node}
-use Rattle.equality.specs.Search.{Tree, metLeaf, groundLeaf, oneBranch, twoBranches, isMet, afterSame, visitNode, visit, nodeRule, depth, metDecisions, allSameTerms, searchTree}
-use Rattle.equality.specs.Visits.{Visits, visits-met, visits-ground, visits-one, visits-two}
+use Rattle.equality.specs.Node.{Decisions, Node, met, ground, split, clique, node}
+use Rattle.equality.specs.Search.{Tree, metLeaf, groundLeaf, cliqueLeaf, oneBranch, twoBranches, isMet, afterSame, visitNode, visit, nodeRule, depth, metDecisions, allSameTerms, searchTree}
+use Rattle.equality.specs.Visits.{Visits, visits-met, visits-ground, visits-clique, visits-one, visits-two}
 use Rattle.equality.specs.Opens.{allOpens}
 use Rattle.equality.proofs.Rule.{split-at}
 use Rattle.equality.proofs.Opens.{opens-all-same, same-fewer, apart-fewer}
@@ -17,13 +17,14 @@ pub met-rule : {rule : Decisions → Node} {ds : Decisions} {t : Tree} → Visit
 unfolding isMet metDecisions
 met-rule (visits-met e) m = e
 met-rule (visits-ground e) m = absurd (false≢true m)
+met-rule (visits-clique e) m = absurd (false≢true m)
 met-rule (visits-one e v q) m = met-rule v m
 met-rule (visits-two e v q w) m = met-rule w m
 
 -- ---- a measure
 
 -- Nothing has to be known of the decisions.
-abbrev Any : Decisions → Type 0
+abbrev pub Any : Decisions → Type 0
 Any ds = Unit {0}
 
 -- Both branches of a split keep what is known of decisions, and the measure falls.
@@ -48,6 +49,7 @@ module _ (rule : Decisions → Node) (Good : Decisions → Type 0) (μ : Decisio
           → Visits rule ds (afterSame go ds a b (go (same a b ∷ ds)) m)
       after true q both = visits-one e (both .0) q
       after false q both = visits-two e (both .0) q (both .1)
+  visits-node go ds clique e both = visits-clique e
 
   -- With fuel above the measure the visit follows the rule,
   pub visit-visits : (fuel : ℕ) (ds : Decisions) → Good ds → μ ds < fuel → Visits rule ds (visit rule fuel ds)
@@ -67,6 +69,7 @@ module _ (rule : Decisions → Node) (Good : Decisions → Type 0) (μ : Decisio
   visit-unique zero v good h = absurd (omega arith)
   visit-unique (suc fuel) (visits-met e) good h = rw e
   visit-unique (suc fuel) (visits-ground e) good h = rw e
+  visit-unique (suc fuel) (visits-clique e) good h = rw e
   visit-unique (suc fuel) {ds} (visits-one {a = a} {b = b} {t = t} e v m) good h =
       let at = branches ds good a b e in
       let branch : visit rule fuel (same a b ∷ ds) ≡ t = visit-unique fuel v (at .same-good) (omega (arith, at .same-falls)) in
@@ -86,6 +89,7 @@ module _ (rule : Decisions → Node) (Good : Decisions → Type 0) (μ : Decisio
   unfolding depth
   depth-measure (visits-met e) good = omega arith
   depth-measure (visits-ground e) good = omega arith
+  depth-measure (visits-clique e) good = omega arith
   depth-measure {ds} (visits-one {a = a} {b = b} e v m) good =
       let at = branches ds good a b e in omega (arith, depth-measure v (at .same-good), at .same-falls)
   depth-measure {ds} (visits-two {a = a} {b = b} e v m w) good =
@@ -97,6 +101,7 @@ module _ (rule : Decisions → Node) (Good : Decisions → Type 0) (μ : Decisio
   unfolding isMet metDecisions
   met-good (visits-met e) m good = good
   met-good (visits-ground e) m good = absurd (false≢true m)
+  met-good (visits-clique e) m good = absurd (false≢true m)
   met-good {ds} (visits-one {a = a} {b = b} e v q) m good = met-good v m (branches ds good a b e .same-good)
   met-good {ds} (visits-two {a = a} {b = b} e v q w) m good = met-good w m (branches ds good a b e .apart-good)
 
@@ -111,18 +116,28 @@ module _ {rule : Decisions → Node} {ds : Decisions} where
   pub met-tree : {t : Tree} → Visits rule ds t → rule ds ≡ met → t ≡ metLeaf ds
   met-tree (visits-met e) n = refl
   met-tree (visits-ground e) n = let z : _≡_ {A = ℕ} 0 1 = cc in absurd (omega arith)
+  met-tree (visits-clique e) n = let z : _≡_ {A = ℕ} 0 1 = cc in absurd (omega arith)
   met-tree (visits-one e v m) n = let z : _≡_ {A = ℕ} 0 1 = cc in absurd (omega arith)
   met-tree (visits-two e v m w) n = let z : _≡_ {A = ℕ} 0 1 = cc in absurd (omega arith)
 
   pub ground-tree : {t : Tree} {c : ℕ} → Visits rule ds t → rule ds ≡ ground c → t ≡ groundLeaf c
   ground-tree (visits-met e) n = let z : _≡_ {A = ℕ} 0 1 = cc in absurd (omega arith)
   ground-tree (visits-ground e) n = ap groundLeaf cc
+  ground-tree (visits-clique e) n = let z : _≡_ {A = ℕ} 0 1 = cc in absurd (omega arith)
   ground-tree (visits-one e v m) n = let z : _≡_ {A = ℕ} 0 1 = cc in absurd (omega arith)
   ground-tree (visits-two e v m w) n = let z : _≡_ {A = ℕ} 0 1 = cc in absurd (omega arith)
+
+  pub clique-tree : {t : Tree} → Visits rule ds t → rule ds ≡ clique → t ≡ cliqueLeaf
+  clique-tree (visits-met e) n = let z : _≡_ {A = ℕ} 0 1 = cc in absurd (omega arith)
+  clique-tree (visits-ground e) n = let z : _≡_ {A = ℕ} 0 1 = cc in absurd (omega arith)
+  clique-tree (visits-clique e) n = refl
+  clique-tree (visits-one e v m) n = let z : _≡_ {A = ℕ} 0 1 = cc in absurd (omega arith)
+  clique-tree (visits-two e v m w) n = let z : _≡_ {A = ℕ} 0 1 = cc in absurd (omega arith)
 
   pub split-tree : {t : Tree} {a b : ℕ} → Visits rule ds t → rule ds ≡ split a b → SplitTree rule ds a b t
   split-tree (visits-met e) n = let z : _≡_ {A = ℕ} 0 1 = cc in absurd (omega arith)
   split-tree (visits-ground e) n = let z : _≡_ {A = ℕ} 0 1 = cc in absurd (omega arith)
+  split-tree (visits-clique e) n = let z : _≡_ {A = ℕ} 0 1 = cc in absurd (omega arith)
   split-tree {a = a} {b = b} (visits-one {a = x} {b = y} e v m) n =
       let first : x ≡ a = cc in
       let second : y ≡ b = cc in

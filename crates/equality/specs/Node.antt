@@ -98,10 +98,12 @@ taken ds c (ts ∷ tss) = cond (passedOver ds ts) (taken ds (suc c) tss) (takes 
 
 -- ---- what the node is
 
+-- A clique is what only a limit on the classes makes of a node (document 02, job 7; crate `limit`).
 pub data Node : Type 0 where
   met : Node
   ground : ℕ → Node
   split : ℕ → ℕ → Node
+  clique : Node
 
 -- "lots as written in the term"
 abbrev pub splitOn : Term → Node
@@ -118,11 +120,11 @@ unfoldable pub groundOrSplit : Decisions → ℕ → List Term → Node
 groundOrSplit ds c [] = ground c
 groundOrSplit ds c (t ∷ ts) = openOr t (value ds t) (groundOrSplit ds c ts)
 
--- "1. No such condition: the node is met."
-abbrev pub nodeOf : Decisions → Taken → Node
-nodeOf ds noCondition = met
-nodeOf ds (takes c ts) = groundOrSplit ds c ts
+-- The node by the condition that it takes, where one that takes none is `otherwise`.
+abbrev pub nodeOf : Node → Decisions → Taken → Node
+nodeOf otherwise ds noCondition = otherwise
+nodeOf otherwise ds (takes c ts) = groundOrSplit ds c ts
 
--- The node of these decisions, over these conditions.
+-- The node of these decisions, over these conditions. "1. No such condition: the node is met."
 unfoldable pub node : Decisions → List (List Term) → Node
-node ds tss = nodeOf ds (taken ds 1 tss)
+node ds tss = nodeOf met ds (taken ds 1 tss)

@@ -4,13 +4,14 @@ use mathlib.Core.Bool.{Bool, true, false}
 use mathlib.Core.List.{List, [], _∷_}
 use lib.ListN.{take, drop}
 use Rattle.sheet.specs.Conditions.{Term, same, apart}
-use Rattle.equality.specs.Node.{Decisions, classes, Node, met, ground, split, node}
+use Rattle.equality.specs.Node.{Decisions, classes, Node, met, ground, split, clique, node}
 
--- The nodes visited: a met node with its decisions; a ground with its condition; a split whose same branch met something, so that its
+-- The nodes visited: a met node with its decisions; a ground with its condition; a clique; a split whose same branch met something, so that its
 -- apart branch is never visited; a split with both branches.
 pub data Tree : Type 0 where
   metLeaf : Decisions → Tree
   groundLeaf : ℕ → Tree
+  cliqueLeaf : Tree
   oneBranch : ℕ → ℕ → Tree → Tree
   twoBranches : ℕ → ℕ → Tree → Tree → Tree
 
@@ -18,6 +19,7 @@ pub data Tree : Type 0 where
 unfoldable pub isMet : Tree → Bool
 isMet (metLeaf ds) = true
 isMet (groundLeaf c) = false
+isMet cliqueLeaf = false
 isMet (oneBranch a b t) = isMet t
 isMet (twoBranches a b t u) = isMet u
 
@@ -34,6 +36,7 @@ visitNode visitBranch ds met = metLeaf ds
 visitNode visitBranch ds (ground c) = groundLeaf c
 visitNode visitBranch ds (split a b) =
     let t = visitBranch (same a b ∷ ds) in afterSame visitBranch ds a b t (isMet t)
+visitNode visitBranch ds clique = cliqueLeaf
 
 -- The visit of the node of these decisions, by a rule that says what the node is. Fuel that is above a measure which falls at each split never decides
 -- (`fuel-never-decides`). By document 01's rule "No path has more splits than the sheet has "same" terms.", so any fuel above those is enough (`search-fuel`).
@@ -63,6 +66,7 @@ searchTree tss = visit (nodeRule tss) (suc (allSameTerms tss)) []
 unfoldable pub nodeCount : Tree → ℕ
 nodeCount (metLeaf ds) = 1
 nodeCount (groundLeaf c) = 1
+nodeCount cliqueLeaf = 1
 nodeCount (oneBranch a b t) = 1 + nodeCount t
 nodeCount (twoBranches a b t u) = 1 + (nodeCount t + nodeCount u)
 
@@ -70,6 +74,7 @@ nodeCount (twoBranches a b t u) = 1 + (nodeCount t + nodeCount u)
 unfoldable pub depth : Tree → ℕ
 depth (metLeaf ds) = 0
 depth (groundLeaf c) = 0
+depth cliqueLeaf = 0
 depth (oneBranch a b t) = suc (depth t)
 depth (twoBranches a b t u) = suc (max (depth t) (depth u))
 
@@ -77,6 +82,7 @@ depth (twoBranches a b t u) = suc (max (depth t) (depth u))
 unfoldable pub metDecisions : Tree → Decisions
 metDecisions (metLeaf ds) = ds
 metDecisions (groundLeaf c) = []
+metDecisions cliqueLeaf = []
 metDecisions (oneBranch a b t) = metDecisions t
 metDecisions (twoBranches a b t u) = metDecisions u
 

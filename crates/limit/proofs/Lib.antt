@@ -1,0 +1,13 @@
+pub mod Range
+pub mod Among
+pub mod Different
+pub mod Left
+pub mod Clique
+pub mod Few
+pub mod NodeKinds
+pub mod Pairs
+pub mod Under
+pub mod Passes
+pub mod Scan
+pub mod Resumes
+pub mod Slack

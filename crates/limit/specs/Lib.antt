@@ -1,0 +1,5 @@
+pub mod Meaning
+pub mod Rule
+pub mod Search
+pub mod Scan
+pub mod Examples
