@@ -1,4 +1,4 @@
--- Where the search is met, the evaluator answers 0 on the grouping as the search leaves it (theorem 2, over bytes).
+-- Where the search is met, the evaluator answers 0 on the grouping as the search leaves it (theorem 2, over bytes), and the grouping keeps the limit.
 use Prim.Native.Nat.{ℕ, zero, suc, _≤_}
 use mathlib.Core.Bool.{true}
 use mathlib.Core.List.{List}
@@ -13,16 +13,17 @@ use Rattle.sheet.specs.Checks.{Accepted}
 use Rattle.sheet.proofs.Accepted.{sound}
 use Rattle.sheet.proofs.Conditions.{conditions-in}
 use Rattle.equality.specs.Node.{Decisions, classes, smallestLot}
-use Rattle.equality.specs.Search.{isMet, searchTree, metDecisions, groupingBytes}
-use Rattle.equality.specs.Evaluator.{numberIn, lowestUnmet, GroupingMeets}
-use Rattle.equality.proofs.Small.{conditions-small}
+use Rattle.equality.specs.Search.{isMet, metDecisions, groupingBytes}
+use Rattle.equality.specs.Evaluator.{numberIn, lowestUnmet}
 use Rattle.equality.proofs.Classes.{classes-length}
 use Rattle.equality.proofs.Least.{zero-class}
-use Rattle.equality.proofs.Right.{search-met}
 use Rattle.equality.proofs.Evaluator.{lowest-met, evaluator-zero}
 use Rattle.equality.proofs.Agree.{lowest-agrees}
 use Rattle.buffers.specs.Written.{written}
-use Rattle.outcome.specs.Outcome.{ZeroGroup}
+use Rattle.limit.specs.Meaning.{Limit}
+use Rattle.limit.proofs.Few.{keeps-agrees}
+use Rattle.limit.proofs.Under.{under-met}
+use Rattle.outcome.specs.Limited.{treeOf, GroupingMeetsUnder, ZeroGroupUnder}
 
 pub grouping-length : (n : ℕ) (ds : Decisions) → n ≤ mostLots → length (groupingBytes n ds) ≡ n
 unfolding groupingBytes
@@ -40,27 +41,33 @@ grouping-number n ds buffer h (suc i) within =
     ∙ getD-drop 1 (classes ds) i 0
     ∙ ap (λ (j : ℕ). getD (classes ds) j 0) (omega arith)
 
-module _ (s : List ℕ) (ok : Accepted s) (met : isMet (searchTree (conditions s)) ≡ true) (buffer : List ℕ) where
+module _ (limit : Limit) (s : List ℕ) (ok : Accepted s) (met : isMet (treeOf limit s) ≡ true) (buffer : List ℕ) where
   -- The grouping that the search leaves in the buffer.
   abbrev pub left : List ℕ
-  left = written (groupingBytes (lotCount s) (metDecisions (searchTree (conditions s)))) buffer
+  left = written (groupingBytes (lotCount s) (metDecisions (treeOf limit s))) buffer
+
+  left-number : (lot : ℕ) → InLots (lotCount s) lot → numberIn left lot ≡ smallestLot (metDecisions (treeOf limit s)) lot
+  left-number = grouping-number (lotCount s) (metDecisions (treeOf limit s)) buffer (sound s ok .header .lots)
 
   -- A lot's number there is 0 exactly when the lot is in lot 0's class.
-  pub met-zero : ZeroGroup s left
+  pub met-zero : ZeroGroupUnder limit s left
   met-zero lot within =
-      let ds = metDecisions (searchTree (conditions s)) in
-      let number = grouping-number (lotCount s) ds buffer (sound s ok .header .lots) lot within in
+      let ds = metDecisions (treeOf limit s) in
+      let number = left-number lot within in
       ((λ e. eq-eqb _ _ (sym number ∙ e ∙ sym (zero-class ds))), (λ e. number ∙ eqb-true _ _ e ∙ zero-class ds))
 
   -- Theorem 2.
   pub met-evaluates : lowestUnmet (numberIn left) 1 (conditions s) ≡ 0
   met-evaluates =
-      lowest-agrees (InLots (lotCount s)) (numberIn left) (smallestLot (metDecisions (searchTree (conditions s))))
-      (grouping-number (lotCount s) (metDecisions (searchTree (conditions s))) buffer (sound s ok .header .lots))
-      1
-      (conditions s)
-      (conditions-in s ok)
-      ∙ lowest-met (smallestLot (metDecisions (searchTree (conditions s)))) 1 (conditions s) (search-met (conditions s) (conditions-small s ok) met)
+      lowest-agrees (InLots (lotCount s)) (numberIn left) (smallestLot (metDecisions (treeOf limit s))) left-number 1 (conditions s) (conditions-in s ok)
+      ∙ lowest-met (smallestLot (metDecisions (treeOf limit s))) 1 (conditions s)
+      (under-met limit (lotCount s) (conditions s) (conditions-in s ok) met .0)
 
-  pub met-grouping : GroupingMeets left s
-  met-grouping = evaluator-zero (numberIn left) (conditions s) .0 met-evaluates
+  -- The grouping meets the sheet, and keeps the limit.
+  pub met-grouping : GroupingMeetsUnder limit left s
+  met-grouping = (
+    evaluator-zero (numberIn left) (conditions s) .0 met-evaluates,
+    keeps-agrees limit (lotCount s) (smallestLot (metDecisions (treeOf limit s))) (numberIn left)
+        (λ lot h. left-number lot (record { low = omega arith; high = h }))
+        (under-met limit (lotCount s) (conditions s) (conditions-in s ok) met .1),
+  )

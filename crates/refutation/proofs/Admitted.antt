@@ -11,14 +11,15 @@ use Rattle.sheet.specs.Checks.{orElse, refusesIf, lotInRange}
 use Rattle.sheet.specs.Conditions.{same}
 use Rattle.sheet.specs.declared.Verdict.{Verdict}
 use Rattle.sheet.proofs.Accepted.{lot-in}
+use Rattle.limit.specs.Meaning.{Limit}
 use Rattle.store.specs.Records.{NodeRecord, splitRecord}
 use Rattle.refutation.specs.Refutation.{Split, mostSplits, walkRecord}
 
 every-lot : (n lot : ℕ) → lot ≤ n → lotInRange lowestLot n lot ≡ true
 every-lot n lot high = lot-in n lot .1 (record { low = omega arith; high = high })
 
-pub split-admitted : (s : List ℕ) (walkRest : ℕ → List Split → Verdict) (rest : List NodeRecord) (at : ℕ) (above : List Split) (a b next : ℕ)
+pub split-admitted : (limit : Limit) (s : List ℕ) (walkRest : ℕ → List Split → Verdict) (rest : List NodeRecord) (at : ℕ) (above : List Split) (a b next : ℕ)
     → a ≤ lotCount s → b ≤ lotCount s
-    → walkRecord lowestLot s walkRest rest at above (splitRecord a b next)
-    ≡ orElse (refusesIf (leb mostSplits (length above)) 15 at) (walkRest (suc at) (record { number = at; next = next; decision = same a b } ∷ above))
-split-admitted s walkRest rest at above a b next first second = rw (every-lot (lotCount s) a first, every-lot (lotCount s) b second)
+    → walkRecord limit lowestLot s walkRest rest at above (splitRecord a b next)
+    ≡ orElse (refusesIf (leb (mostSplits limit) (length above)) 15 at) (walkRest (suc at) (record { number = at; next = next; decision = same a b } ∷ above))
+split-admitted limit s walkRest rest at above a b next first second = rw (every-lot (lotCount s) a first, every-lot (lotCount s) b second)

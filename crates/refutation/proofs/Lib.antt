@@ -1,3 +1,5 @@
 pub mod Admitted
 pub mod Sound
 pub mod Withdrawn
+pub mod Smaller
+pub mod Plain

@@ -11,6 +11,7 @@ use Rattle.sheet.specs.Conditions.{conditionAt}
 use Rattle.sheet.proofs.Conditions.{conditions-at, withdrawn-empty}
 use Rattle.equality.specs.Node.{Decisions}
 use Rattle.equality.proofs.Some.{some-no-term}
+use Rattle.limit.specs.Meaning.{Limit}
 use Rattle.store.specs.Records.{NodeRecord, groundRecord}
 use Rattle.refutation.specs.Refutation.{Split, groundFails, named, walkFrom}
 
@@ -20,10 +21,10 @@ unfolding groundFails
 no-term-ground ds = some-no-term _
 
 -- and by the walk, of a condition whose head is zero.
-pub withdrawn-refused : (s : List ℕ) (c : ℕ) → 1 ≤ c → c ≤ conditionCount s → headAt s c ≡ 0
-    → (rest : List NodeRecord) (at : ℕ) (above : List Split) → walkFrom lowestLot s (groundRecord c ∷ rest) at above ≡ Refuses 12 at
+pub withdrawn-refused : (limit : Limit) (s : List ℕ) (c : ℕ) → 1 ≤ c → c ≤ conditionCount s → headAt s c ≡ 0
+    → (rest : List NodeRecord) (at : ℕ) (above : List Split) → walkFrom limit lowestLot s (groundRecord c ∷ rest) at above ≡ Refuses 12 at
 unfolding walkFrom
-withdrawn-refused s c low high zero rest at above =
+withdrawn-refused limit s c low high zero rest at above =
     let number : suc (c - 1) ≡ c = omega arith in
     let none : named s c ≡ [] = conditions-at s (c - 1) (omega arith) ∙ ap (conditionAt s) number ∙ withdrawn-empty s c zero in
     rw (le-leb 1 c low, le-leb c (conditionCount s) high, none, no-term-ground)

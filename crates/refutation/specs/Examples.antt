@@ -12,8 +12,9 @@ use Rattle.sheet.specs.Checks.{firstRefusal, lowestRefusal, check1, check2, che
 use Rattle.sheet.specs.Conditions.{chain, recordsFrom, termsFrom, countUp, conditions}
 use Rattle.equality.specs.Meaning.{anyTerm, someTerm}
 use Rattle.equality.specs.Node.{merged, classes, marked, value}
+use Rattle.limit.specs.Meaning.{unlimited}
 use Rattle.store.specs.Records.{NodeRecord, splitRecord, groundRecord, metRecord, encode, encodeAll, ofKind, decode, recordsOf}
-use Rattle.refutation.specs.Refutation.{groundFails, nearest, walkFrom, check10, walkVerdict, listVerdict, listVerdictWith}
+use Rattle.refutation.specs.Refutation.{groundFails, nearest, walkFrom, check10, walkVerdict, listVerdict, listVerdictUnder}
 
 -- A: same 1 2; same 2 3; apart 1 3.
 abbrev pub sheetA : List ℕ
@@ -96,8 +97,8 @@ pub verdicts :
     ∷ says (take 8 (encodeAll refutationA))
     ∷ says (encodeAll (refutationA ++ metRecord ∷ []))
     -- 15: 1,024 splits stand above a split
-    ∷ walkFrom lowestLot sheetA (splits 1025) 1 []
-    ∷ walkFrom lowestLot sheetA (splits 1024) 1 []
+    ∷ walkFrom unlimited lowestLot sheetA (splits 1025) 1 []
+    ∷ walkFrom unlimited lowestLot sheetA (splits 1024) 1 []
     ∷ []
     ≡ Passes
     ∷ Refuses 10 0
@@ -129,5 +130,5 @@ pub verdicts :
     ∷ Refuses 15 1025
     ∷ Refuses 14 1025
     ∷ []
-unfolding number twoBytes headAt signAt spareAt firstLotAt secondLotAt nextAt zeroBytes vacant firstRefusal lowestRefusal check1 check2 check3 check4 wellFormed check5 member walkChain walkChains walked check17And6 check7 sheetChecksWith chain recordsFrom termsFrom countUp conditions anyTerm someTerm merged classes marked value encode encodeAll ofKind decode recordsOf groundFails nearest walkFrom check10 walkVerdict listVerdictWith splits
+unfolding number twoBytes headAt signAt spareAt firstLotAt secondLotAt nextAt zeroBytes vacant firstRefusal lowestRefusal check1 check2 check3 check4 wellFormed check5 member walkChain walkChains walked check17And6 check7 sheetChecksWith chain recordsFrom termsFrom countUp conditions anyTerm someTerm merged classes marked value encode encodeAll ofKind decode recordsOf groundFails nearest walkFrom check10 walkVerdict listVerdictUnder splits
 verdicts = refl

@@ -1,4 +1,5 @@
--- The walk over a list of records from any hand (document 01, "Grounds from any hand", and checks 10 to 15 of its table).
+-- The walk over a list of records from any hand (document 01, "Grounds from any hand", and checks 10 to 15 of its table), with a limit on the classes or
+-- without one (document 02, job 7).
 use Prim.Native.Nat.{ℕ, suc, _-_, _/_, _%_}
 use mathlib.Core.Bool.{Bool, true, false, not, _&&_, _||_}
 use mathlib.Core.List.{List, [], _∷_, _++_, map}
@@ -13,11 +14,15 @@ use Rattle.sheet.specs.Checks.{orElse, refusesIf, firstRefusal, sheetChecksWith
 use Rattle.sheet.specs.Answers.{Answer, answered, answerOf}
 use Rattle.equality.specs.Meaning.{someTerm}
 use Rattle.equality.specs.Node.{Decisions, Value, isTrue, isFalse, isOpen, value}
-use Rattle.store.specs.Records.{NodeRecord, splitRecord, groundRecord, metRecord, noRecord, recordLength, mostNodes, recordsOf}
+use Rattle.limit.specs.Meaning.{Limit, unlimited, upTo, limitChecks}
+use Rattle.limit.specs.Rule.{cliquePasses}
+use Rattle.store.specs.Records.{NodeRecord, splitRecord, groundRecord, metRecord, cliqueRecord, noRecord, recordLength, mostNodes, recordsOf}
 
--- "same, a split | 15 | 1,024 splits stand above it | record": the most splits above a record.
-abbrev pub mostSplits : ℕ
-mostSplits = 1024
+-- "same, a split | 15 | 1,024 splits stand above it | record": the most splits above a record. With a limit "its depth check 15 then stands at 8,256 splits"
+-- (document 02).
+abbrev pub mostSplits : Limit → ℕ
+mostSplits unlimited = 1024
+mostSplits (upTo g) = 8256
 
 -- "The splits above a record are kept with the branch taken at each.": a split's record number, its next, and the decision of the branch
 -- taken, "same" or "apart". The nearest split comes first.
@@ -85,21 +90,29 @@ module _ (s : List ℕ) where
   abbrev pub conditionInRange : ℕ → Bool
   conditionInRange c = leb 1 c && leb c (conditionCount s)
 
-module _ (lowest : ℕ) (s : List ℕ) where
+-- Of a clique under a limit: "passes a crowd exactly when .. and otherwise says 12", "the walk goes on as after a ground" (document 02, job 7).
+-- Without a limit its kind is out of range.
+abbrev pub walkClique : Limit → ℕ → (ℕ → List Split → Verdict) → List NodeRecord → ℕ → List Split → Verdict
+walkClique unlimited n walkRest rest at above = Refuses 11 at
+walkClique (upTo g) n walkRest rest at above =
+    orElse (refusesIf (not (cliquePasses g n (decisionsOf above))) 12 at) (afterGround walkRest rest (suc at) (nearest above))
+
+module _ (limit : Limit) (lowest : ℕ) (s : List ℕ) where
   -- One record, of number `at`, below the splits `above`; `rest` is what follows it. "each record, in turn | 11 | kind, spare, lot or condition out
-  -- of range; second or next of a ground not 0 | record": bytes of which one has to be 0 and isn't are decoded as no record. "kinds 1 and 2 only": a met record
-  -- is out of range too. "Splits may name any two lots, also a pair already decided or a lot twice.", from `lowest` on: "Checks 5 and 11 admit lot 0" (document
-  -- 02), in a split's two fields, and no condition 0.
+  -- of range; second or next of a ground not 0 | record": bytes of which one has to be 0 and isn't are decoded as no record, also of a clique:
+  -- "kind 4, other fields 0 (else 11)". "kinds 1 and 2 only", and kind 4 under a limit: a met record is out of range too. "Splits may name any two lots, also a
+  -- pair already decided or a lot twice.", from `lowest` on: "Checks 5 and 11 admit lot 0" (document 02), in a split's two fields, and no condition 0.
   abbrev pub walkRecord : (ℕ → List Split → Verdict) → List NodeRecord → ℕ → List Split → NodeRecord → Verdict
   walkRecord walkRest rest at above (splitRecord a b next) =
       orElse (refusesIf (not (lotInRange lowest (lotCount s) a && lotInRange lowest (lotCount s) b)) 11 at)
-      (orElse (refusesIf (leb mostSplits (length above)) 15 at)
+      (orElse (refusesIf (leb (mostSplits limit) (length above)) 15 at)
       (walkRest (suc at) (record { number = at; next = next; decision = same a b } ∷ above)))
   walkRecord walkRest rest at above (groundRecord c) =
       orElse (refusesIf (not (conditionInRange s c)) 11 at)
       (orElse (refusesIf (groundFails (decisionsOf above) (named s c)) 12 at)
       (afterGround walkRest rest (suc at) (nearest above)))
   walkRecord walkRest rest at above metRecord = Refuses 11 at
+  walkRecord walkRest rest at above cliqueRecord = walkClique limit (lotCount s) walkRest rest at above
   walkRecord walkRest rest at above noRecord = Refuses 11 at
 
   -- The walk from record `at` on, which is the first of `list`. Where a record is due and the list is over, "the next one is missing": 14.
@@ -115,23 +128,41 @@ check10 list =
     refusesIf (eqb (length list) 0 || not (eqb (length list % recordLength) 0) || ltb mostNodes (length list / recordLength)) 10 0
 
 -- The walk, "from record 1".
-unfoldable pub walkVerdict : ℕ → List ℕ → List ℕ → Verdict
-walkVerdict lowest s list = walkFrom lowest s (recordsOf list) 1 []
+unfoldable pub walkVerdict : Limit → ℕ → List ℕ → List ℕ → Verdict
+walkVerdict limit lowest s list = walkFrom limit lowest s (recordsOf list) 1 []
 
--- The first check of the table that a sheet and a list fail: where lots count from `lowest`, and as they do.
-unfoldable pub listVerdictWith : ℕ → List ℕ → List ℕ → Verdict
-listVerdictWith lowest s list = firstRefusal (sheetChecksWith lowest s ++ check10 list ∷ walkVerdict lowest s list ∷ [])
+-- The first check of the table that a sheet, a limit and a list fail, where lots count from `lowest`: 20, if there is a limit, is "right after 7".
+unfoldable pub listVerdictUnder : Limit → ℕ → List ℕ → List ℕ → Verdict
+listVerdictUnder limit lowest s list =
+    firstRefusal (sheetChecksWith lowest s ++ (limitChecks limit ++ check10 list ∷ walkVerdict limit lowest s list ∷ []))
+
+-- "A list passes when its walk ends there and no check has refused it.": the list (document 01: grounds) is a refutation of the sheet under the limit.
+abbrev pub RefutesUnder : Limit → List ℕ → List ℕ → Type 0
+RefutesUnder limit s list = listVerdictUnder limit lowestLot s list ≡ Passes
+
+-- The checker's answer: no value for a list that passes.
+unfoldable pub checkAnswerUnder : Limit → ℕ → List ℕ → List ℕ → Answer
+checkAnswerUnder limit lowest s list = answerOf (listVerdictUnder limit lowest s list) (answered 0 0 0)
+
+-- ---- without a limit: where lots count from `lowest`, and as they do
+
+abbrev pub listVerdictWith : ℕ → List ℕ → List ℕ → Verdict
+listVerdictWith lowest s list = listVerdictUnder unlimited lowest s list
 
 abbrev pub listVerdict : List ℕ → List ℕ → Verdict
 listVerdict s list = listVerdictWith lowestLot s list
 
--- "A list passes when its walk ends there and no check has refused it.": the list (document 01: grounds) is a refutation of the sheet.
 abbrev pub Refutes : List ℕ → List ℕ → Type 0
-Refutes s list = listVerdict s list ≡ Passes
+Refutes s list = RefutesUnder unlimited s list
 
--- The checker's answer: no value for a list that passes.
-unfoldable pub checkAnswerWith : ℕ → List ℕ → List ℕ → Answer
-checkAnswerWith lowest s list = answerOf (listVerdictWith lowest s list) (answered 0 0 0)
+abbrev pub checkAnswerWith : ℕ → List ℕ → List ℕ → Answer
+checkAnswerWith lowest s list = checkAnswerUnder unlimited lowest s list
 
 abbrev pub checkAnswer : List ℕ → List ℕ → Answer
 checkAnswer s list = checkAnswerWith lowestLot s list
+
+-- ---- with one
+
+-- The checker's answer to a limit, whatever number it is.
+abbrev pub limitedCheckAnswer : List ℕ → ℕ → List ℕ → Answer
+limitedCheckAnswer s limit list = checkAnswerUnder (upTo limit) lowestLot s list

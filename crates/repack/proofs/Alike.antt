@@ -14,9 +14,12 @@ use Rattle.sheet.specs.Answers.{withThird, readAnswer, readAnswerWith}
 use Rattle.sheet.proofs.Further.{further-accepted}
 use Rattle.sheet.proofs.Conditions.{conditions-length, conditions-at, terms-count, withdrawn-empty, empty-withdrawn}
 use Rattle.equality.specs.Evaluator.{check8, groupingVerdict, groupingVerdictWith, evaluateAnswer, evaluateAnswerWith}
-use Rattle.store.specs.Records.{NodeRecord, splitRecord, groundRecord, metRecord, noRecord, recordsOf}
-use Rattle.refutation.specs.Refutation.{Split, walkRecord, walkFrom, check10, walkVerdict, listVerdictWith, checkAnswer, checkAnswerWith}
-use Rattle.outcome.specs.Outcome.{searchOutcome, searchOutcomeWith}
+use Rattle.store.specs.Records.{NodeRecord, splitRecord, groundRecord, metRecord, cliqueRecord, noRecord, recordsOf}
+use Rattle.limit.specs.Meaning.{Limit, unlimited, limitChecks}
+use Rattle.refutation.specs.Refutation.{Split, walkRecord, walkFrom, check10, walkVerdict, listVerdictUnder, checkAnswerUnder}
+use Rattle.outcome.specs.Outcome.{searchOutcome}
+use Rattle.outcome.specs.Limited.{verdictUnder, outcomeUnder}
+use Rattle.outcome.proofs.Checked.{unlimited-outcome}
 use Rattle.repack.specs.Promises.{Alike, ServedAlike}
 
 module _ (s t : List ℕ) (alike : Alike s t) where
@@ -63,32 +66,50 @@ module _ (s t : List ℕ) (alike : Alike s t) where
   unfolding evaluateAnswerWith
   alike-evaluate grouping = rw (alike-grouping grouping, alike .lists)
 
-  -- The answer and both buffers.
+  alike-verdict : (limit : Limit) (grouping : List ℕ) → verdictUnder limit s grouping ≡ verdictUnder limit t grouping
+  unfolding verdictUnder check8
+  alike-verdict limit grouping =
+      alike-further (limitChecks limit ++ check8 s grouping ∷ []) (limitChecks limit ++ check8 t grouping ∷ []) (rw (alike .lots))
+
+  -- The answer and both buffers, with a limit or without one.
+  alike-under : (limit : Limit) (grouping store : List ℕ) → outcomeUnder limit s grouping store ≡ outcomeUnder limit t grouping store
+  unfolding outcomeUnder
+  alike-under limit grouping store = rw (alike-verdict limit grouping, alike .lots, alike .lists)
+
   alike-search : (grouping store : List ℕ) → searchOutcome s grouping store ≡ searchOutcome t grouping store
-  unfolding searchOutcomeWith
-  alike-search grouping store = rw (alike-grouping grouping, alike .lots, alike .lists)
+  alike-search grouping store = sym (unlimited-outcome s grouping store) ∙ alike-under unlimited grouping store ∙ unlimited-outcome t grouping store
 
   -- ---- refutation checker
 
-  alike-walk : (list : List NodeRecord) → walkFrom lowestLot s list ≡ walkFrom lowestLot t list
+  alike-walk : (limit : Limit) (list : List NodeRecord) → walkFrom limit lowestLot s list ≡ walkFrom limit lowestLot t list
   unfolding walkFrom
-  alike-walk [] = refl
-  alike-walk (r ∷ rest) = fun-ext (λ (at : ℕ). fun-ext (λ (above : List Split). go r at above (alike-walk rest)))
+  alike-walk limit [] = refl
+  alike-walk limit (r ∷ rest) = fun-ext (λ (at : ℕ). fun-ext (λ (above : List Split). go r at above (alike-walk limit rest)))
     where
       go : (r : NodeRecord) (at : ℕ) (above : List Split) {walk other : ℕ → List Split → Verdict} → walk ≡ other
-          → walkRecord lowestLot s walk rest at above r ≡ walkRecord lowestLot t other rest at above r
+          → walkRecord limit lowestLot s walk rest at above r ≡ walkRecord limit lowestLot t other rest at above r
       go (splitRecord a b next) at above e = rw (alike .lots, e)
       go (groundRecord c) at above e = rw (alike-conditions, alike .lists, e)
       go metRecord at above e = refl
+      go cliqueRecord at above e = rw (alike .lots, e)
       go noRecord at above e = refl
 
-  alike-check : (list : List ℕ) → checkAnswer s list ≡ checkAnswer t list
-  unfolding checkAnswerWith listVerdictWith walkVerdict
-  alike-check list =
-      rw (alike-further (check10 list ∷ walkVerdict lowestLot s list ∷ []) (check10 list ∷ walkVerdict lowestLot t list ∷ [])
-      (ap (λ (w : ℕ → List Split → Verdict). firstRefusal (check10 list ∷ w 1 [] ∷ [])) (alike-walk (recordsOf list))))
+  alike-check : (limit : Limit) (list : List ℕ) → checkAnswerUnder limit lowestLot s list ≡ checkAnswerUnder limit lowestLot t list
+  unfolding checkAnswerUnder listVerdictUnder walkVerdict
+  alike-check limit list =
+      rw (alike-further (limitChecks limit ++ check10 list ∷ walkVerdict limit lowestLot s list ∷ []) (limitChecks limit ++ check10 list ∷ walkVerdict limit lowestLot t list ∷ [])
+      (ap (λ (w : ℕ → List Split → Verdict). firstRefusal (limitChecks limit ++ check10 list ∷ w 1 [] ∷ [])) (alike-walk limit (recordsOf list))))
 
   -- ---- all of them
 
   pub served-alike : ServedAlike s t
-  served-alike = record { reads = alike-read; filled = alike-filled; searches = alike-search; checks = alike-check; evaluates = alike-evaluate }
+  served-alike =
+      record {
+        reads = alike-read;
+        filled = alike-filled;
+        searches = alike-search;
+        checks = alike-check unlimited;
+        searchesUnder = alike-under;
+        checksUnder = alike-check;
+        evaluates = alike-evaluate;
+      }

@@ -10,7 +10,7 @@ use Rattle.buffers.proofs.Bytes.{low-high, byte-shift, number-shift}
 use Rattle.sheet.specs.Conditions.{countUp}
 use Rattle.buffers.specs.Lists.{All}
 use Rattle.sheet.proofs.Ranges.{length-along, getD-along}
-use Rattle.store.specs.Records.{nextPlace, NodeRecord, splitRecord, groundRecord, metRecord, noRecord, recordLength, encode, ofKind, decode, recordAt, recordsOf, encodeAll, Fits}
+use Rattle.store.specs.Records.{nextPlace, NodeRecord, splitRecord, groundRecord, metRecord, cliqueRecord, noRecord, recordLength, encode, ofKind, decode, recordAt, recordsOf, encodeAll, Fits}
 
 -- ---- lengths
 
@@ -19,6 +19,7 @@ unfolding encode twoBytes
 encode-length (splitRecord a b next) = refl
 encode-length (groundRecord c) = refl
 encode-length metRecord = refl
+encode-length cliqueRecord = refl
 encode-length noRecord = refl
 
 pub encodeAll-length : (rs : List NodeRecord) → length (encodeAll rs) ≡ recordLength * length rs
@@ -40,6 +41,7 @@ unfolding decode encode twoBytes number ofKind
 decode-encode (splitRecord a b next) rest h = simp (low-high a (h .0), low-high b (h .1), low-high next (omega (arith, h .2)))
 decode-encode (groundRecord c) rest h = simp (low-high c h)
 decode-encode metRecord rest h = refl
+decode-encode cliqueRecord rest h = refl
 decode-encode noRecord rest h = refl
 
 -- ---- all records

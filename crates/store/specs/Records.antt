@@ -8,12 +8,14 @@ use lib.Seq.{sets}
 use Rattle.buffers.specs.Bytes.{number, twoBytes, TwoBytes}
 use Rattle.sheet.specs.Conditions.{countUp}
 
--- "Kind 1 split: lots a and b. Kind 2 ground: the condition, then 0. Kind 3 met: 0, 0. Kind 0 and kinds 4 to 255 are none of these."
--- A split has its next besides; "Grounds and met have next 0." Bytes that are none of the three are `noRecord`.
+-- "Kind 1 split: lots a and b. Kind 2 ground: the condition, then 0. Kind 3 met: 0, 0. Kind 0 and kinds 4 to 255 are none of these.", but that since document
+-- 02, job 7, a clique is "kind 4, other fields 0"; where there is no limit a list may have none. A split has its next besides; "Grounds and met have next 0."
+-- Bytes that are none of the four are `noRecord`.
 pub data NodeRecord : Type 0 where
   splitRecord : ℕ → ℕ → ℕ → NodeRecord
   groundRecord : ℕ → NodeRecord
   metRecord : NodeRecord
+  cliqueRecord : NodeRecord
   noRecord : NodeRecord
 
 -- ---- a record's bytes
@@ -44,6 +46,7 @@ unfoldable pub encode : NodeRecord → List ℕ
 encode (splitRecord a b next) = fields 1 a b next
 encode (groundRecord c) = fields 2 c 0 0
 encode metRecord = fields 3 0 0 0
+encode cliqueRecord = fields 4 0 0 0
 encode noRecord = fields 0 0 0 0
 
 -- The numbers of a record have their bytes.
@@ -51,6 +54,7 @@ abbrev pub Fits : NodeRecord → Type 0
 Fits (splitRecord a b next) = TwoBytes a × TwoBytes b × (next ≤ mostNext)
 Fits (groundRecord c) = TwoBytes c
 Fits metRecord = Unit {0}
+Fits cliqueRecord = Unit {0}
 Fits noRecord = Unit {0}
 
 -- The record of these fields, where those that have to be 0 are.
@@ -63,7 +67,9 @@ ofKind (suc zero) spare first second next = recordIf (eqb spare 0) (splitRecord 
 ofKind (suc (suc zero)) spare first second next = recordIf (eqb spare 0 && eqb second 0 && eqb next 0) (groundRecord first)
 ofKind (suc (suc (suc zero))) spare first second next =
     recordIf (eqb spare 0 && eqb first 0 && eqb second 0 && eqb next 0) metRecord
-ofKind (suc (suc (suc (suc kind)))) spare first second next = noRecord
+ofKind (suc (suc (suc (suc zero)))) spare first second next =
+    recordIf (eqb spare 0 && eqb first 0 && eqb second 0 && eqb next 0) cliqueRecord
+ofKind (suc (suc (suc (suc (suc kind))))) spare first second next = noRecord
 
 -- The record whose bytes begin at place i.
 unfoldable pub decode : List ℕ → ℕ → NodeRecord

@@ -21,11 +21,12 @@ const NEXT_PLACE: usize = 6;
 // The number of a node record, from 1; zero stands for none. Term records (sheet::Record) have numbers of their own.
 pub struct NodeNumber(pub u32);
 
-// A node record: a split of two lots with its next, the ground that is a condition, met, or bytes that are none of these.
+// A node record: a split of two lots with its next, the ground that is a condition, met, a clique, or bytes that are none of these.
 pub enum NodeRecord {
     Split(Lot, Lot, NodeNumber),
     Ground(Condition),
     Met,
+    Clique,
     Other,
 }
 
@@ -86,6 +87,7 @@ pub fn write(store: &mut [u8], number: NodeNumber, node: NodeRecord)
         NodeRecord::Split(a, b, next) => put_fields(store, number, 1, a.0, b.0, next),
         NodeRecord::Ground(c) => put_fields(store, number, 2, c.0, 0, NodeNumber(0)),
         NodeRecord::Met => put_fields(store, number, 3, 0, 0, NodeNumber(0)),
+        NodeRecord::Clique => put_fields(store, number, 4, 0, 0, NodeNumber(0)),
         NodeRecord::Other => put_fields(store, number, 0, 0, 0, NodeNumber(0)),
     }
 }
@@ -119,7 +121,12 @@ fn decode_fields(kind: u8, spare: u8, first: u16, second: u16, next: u16) -> Nod
         } else {
             NodeRecord::Other
         },
-        0 | 4..=255 => NodeRecord::Other,
+        4 => if spare == 0 && first == 0 && second == 0 && next == 0 {
+            NodeRecord::Clique
+        } else {
+            NodeRecord::Other
+        },
+        0 | 5..=255 => NodeRecord::Other,
     }
 }
 

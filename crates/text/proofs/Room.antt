@@ -13,7 +13,8 @@ use Rattle.sheet.proofs.Accepted.{sound}
 use Rattle.equality.specs.Node.{Decisions}
 use Rattle.equality.proofs.Least.{least}
 use Rattle.equality.specs.Search.{nodeCount, searchTree, metDecisions, groupingBytes}
-use Rattle.store.specs.Records.{NodeRecord, splitRecord, groundRecord, metRecord, noRecord, Fits}
+use Rattle.limit.specs.Meaning.{unlimited}
+use Rattle.store.specs.Records.{NodeRecord, splitRecord, groundRecord, metRecord, cliqueRecord, noRecord, Fits}
 use Rattle.outcome.specs.Nodes.{records}
 use Rattle.outcome.specs.Outcome.{metResult, cannotResult}
 use Rattle.outcome.proofs.Fitting.{records-count, search-fits}
@@ -46,6 +47,7 @@ recordLine-most (splitRecord a b next) h =
     omega (arith, line-length splitWord (decimal a ∷ decimal b ∷ decimal next ∷ []), five-digits a (omega (arith, h .0)), five-digits b (omega (arith, h .1)), five-digits next (omega (arith, h .2)))
 recordLine-most (groundRecord c) h = omega (arith, line-length groundWord (decimal c ∷ []), five-digits c (omega (arith, h)))
 recordLine-most metRecord h = omega arith
+recordLine-most cliqueRecord h = omega arith
 recordLine-most noRecord h = omega arith
 
 pub recordLines-most : (rs : List NodeRecord) → All Fits rs → length (recordLines rs) ≤ 24 * length rs
@@ -101,7 +103,7 @@ module _ (s : List ℕ) (ok : Accepted s) where
   module _ (few : nodeCount (searchTree (conditions s)) ≤ programCapacity) where
     lines-most : length (recordLines (records 1 (searchTree (conditions s)))) ≤ 24 * programCapacity
     lines-most =
-        omega (arith, recordLines-most (records 1 (searchTree (conditions s))) (search-fits s ok (omega arith)), records-count 1 (searchTree (conditions s)))
+        omega (arith, recordLines-most (records 1 (searchTree (conditions s))) (search-fits unlimited s ok (omega arith)), records-count 1 (searchTree (conditions s)))
 
     pub met-most : length (resultText s (metResult (searchTree (conditions s)))) ≤ textRoom
     unfolding resultText

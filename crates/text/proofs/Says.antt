@@ -16,6 +16,7 @@ use Rattle.sheet.proofs.Accepted.{sound}
 use Rattle.equality.specs.Search.{Tree, nodeCount, searchTree, metDecisions, groupingBytes}
 use Rattle.equality.specs.Evaluator.{check8, groupingVerdict, groupingVerdictWith}
 use Rattle.outcome.specs.Nodes.{records}
+use Rattle.limit.specs.Meaning.{unlimited}
 use Rattle.store.specs.Records.{encodeAll, mostNodes, capacity}
 use Rattle.buffers.specs.Written.{written}
 use Rattle.outcome.specs.Outcome.{resultOf, metResult, cannotResult}
@@ -35,7 +36,7 @@ module _ (s : List ℕ) (ok : Accepted s) (few : nodeCount (searchTree (conditio
   records-left =
       let tree = searchTree (conditions s) in
       let bytes = encodeAll (records 1 tree) in
-      rw (← records-count 1 tree) (records-first (records 1 tree) (search-fits s ok few) (drop (length bytes) store))
+      rw (← records-count 1 tree) (records-first (records 1 tree) (search-fits unlimited s ok few) (drop (length bytes) store))
 
   pub met-text-says : (grouping : List ℕ)
       → metText s (nodeCount (searchTree (conditions s))) (written (groupingBytes (lotCount s) (metDecisions (searchTree (conditions s)))) grouping) storeLeft

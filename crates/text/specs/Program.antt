@@ -6,7 +6,7 @@ use Rattle.sheet.specs.Format.{lowestLot, lotCount, conditionCount, recordCount
 use Rattle.sheet.specs.Conditions.{conditions}
 use Rattle.sheet.specs.Checks.{sheetVerdictWith}
 use Rattle.equality.specs.Search.{searchTree, nodeCount, metDecisions, groupingBytes}
-use Rattle.store.specs.Records.{NodeRecord, splitRecord, groundRecord, metRecord, noRecord}
+use Rattle.store.specs.Records.{NodeRecord, splitRecord, groundRecord, metRecord, cliqueRecord, noRecord}
 use Rattle.outcome.specs.Nodes.{records}
 use Rattle.outcome.specs.Outcome.{Result, refusedResult, fullResult, metResult, cannotResult, resultOf}
 use Rattle.text.specs.Lines.{decimal, line, lotsWord, conditionsWord, termsWord, splitWord, groundWord, metWord, cannotWord, refusedWord}
@@ -24,11 +24,13 @@ headerLine s =
     line lotsWord
     (decimal (lotCount s) ∷ conditionsWord ∷ decimal (conditionCount s) ∷ termsWord ∷ decimal (recordCount s) ∷ [])
 
--- "a line per split (split, two lots, next) and per ground (ground, condition)"; the met record has no line of its own.
+-- "a line per split (split, two lots, next) and per ground (ground, condition)"; the met record has no line of its own, and of a
+-- clique there is none to print: the program searches without a limit.
 unfoldable pub recordLine : NodeRecord → List ℕ
 recordLine (splitRecord a b next) = line splitWord (decimal a ∷ decimal b ∷ decimal next ∷ [])
 recordLine (groundRecord c) = line groundWord (decimal c ∷ [])
 recordLine metRecord = []
+recordLine cliqueRecord = []
 recordLine noRecord = []
 
 -- "Then, in record order"

@@ -68,7 +68,7 @@ fn split_line(out: &mut [u8], at: usize, a: Lot, b: Lot, second: NodeNumber) -> 
     put_byte(out, next, LINE_END)
 }
 
-// The line of a node record; the met record has none.
+// The line of a node record; the met record and a clique have none.
 fn record_line(out: &mut [u8], at: usize, node: NodeRecord) -> usize
     requires { ⌜ at + length (recordLine (recordOf node)) ≤ length (now out) ⌝ }
     ensures { λ r. ⌜ Wrote (now (out .entry)) (now (out .exit)) at r (recordLine (recordOf node)) ⌝ }
@@ -77,6 +77,7 @@ fn record_line(out: &mut [u8], at: usize, node: NodeRecord) -> usize
         NodeRecord::Split(a, b, second) => split_line(out, at, a, b, second),
         NodeRecord::Ground(c) => number_line(out, at, b"ground", c.0 as u32),
         NodeRecord::Met => at,
+        NodeRecord::Clique => at,
         NodeRecord::Other => at,
     }
 }

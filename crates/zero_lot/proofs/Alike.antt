@@ -10,7 +10,8 @@ use Rattle.sheet.specs.declared.Verdict.{Verdict}
 use Rattle.sheet.specs.Format.{lowestLot, lotCount, recordCount, vacant, firstLotAt, secondLotAt}
 use Rattle.sheet.specs.Checks.{lotInRange, wellFormed, check5, sheetChecksWith}
 use Rattle.sheet.proofs.Verdicts.{lowest-agrees}
-use Rattle.store.specs.Records.{NodeRecord, splitRecord, groundRecord, metRecord, noRecord}
+use Rattle.limit.specs.Meaning.{Limit}
+use Rattle.store.specs.Records.{NodeRecord, splitRecord, groundRecord, metRecord, cliqueRecord, noRecord}
 use Rattle.refutation.specs.Refutation.{Split, walkRecord, walkFrom}
 use Rattle.zero_lot.specs.Unnamed.{NotZero, SheetNeverNames, RecordNeverNames}
 
@@ -41,15 +42,16 @@ module _ (s : List ℕ) (never : SheetNeverNames s) where
 
 -- ---- the walk over a list
 
-module _ (s : List ℕ) where
+module _ (limit : Limit) (s : List ℕ) where
   one-alike : (r : NodeRecord) → RecordNeverNames r → (rest : List NodeRecord) (at : ℕ) (above : List Split) {walk other : ℕ → List Split → Verdict} → walk ≡ other
-      → walkRecord 1 s walk rest at above r ≡ walkRecord lowestLot s other rest at above r
+      → walkRecord limit 1 s walk rest at above r ≡ walkRecord limit lowestLot s other rest at above r
   one-alike (splitRecord a b next) never rest at above e = rw (in-range (lotCount s) a (never .0), in-range (lotCount s) b (never .1), e)
   one-alike (groundRecord c) never rest at above e = rw e
   one-alike metRecord never rest at above e = refl
+  one-alike cliqueRecord never rest at above e = rw e
   one-alike noRecord never rest at above e = refl
 
-  pub walk-alike : (list : List NodeRecord) → All RecordNeverNames list → walkFrom 1 s list ≡ walkFrom lowestLot s list
+  pub walk-alike : (list : List NodeRecord) → All RecordNeverNames list → walkFrom limit 1 s list ≡ walkFrom limit lowestLot s list
   unfolding walkFrom
   walk-alike [] never = refl
   walk-alike (r ∷ rest) never =

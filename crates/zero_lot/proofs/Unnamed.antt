@@ -15,7 +15,8 @@ use Rattle.sheet.proofs.Further.{further-passes}
 use Rattle.equality.specs.Evaluator.{check8, groupingVerdict, groupingVerdictWith, numberWith, numberIn, lowestUnmet, evaluateAnswer, evaluateAnswerWith}
 use Rattle.equality.proofs.Agree.{lowest-agrees}
 use Rattle.store.specs.Records.{recordsOf}
-use Rattle.refutation.specs.Refutation.{walkVerdict, listVerdictWith, checkAnswer, checkAnswerWith}
+use Rattle.limit.specs.Meaning.{unlimited}
+use Rattle.refutation.specs.Refutation.{walkVerdict, listVerdictUnder, checkAnswer, checkAnswerWith, checkAnswerUnder}
 use Rattle.outcome.specs.Outcome.{searchOutcome, searchOutcomeWith}
 use Rattle.repack.specs.Repack.{repackVerdictWith, repackAnswer, repackAnswerWith, repackOut, repackOutWith}
 use Rattle.text.specs.Program.{mostInput, printed, printedWith}
@@ -50,8 +51,8 @@ module _ (s : List ℕ) (never : SheetNeverNames s) where
   searching grouping store = rw (grouping-alike grouping)
 
   checking : (list : List ℕ) → ListNeverNames list → checkAnswerWith 1 s list ≡ checkAnswer s list
-  unfolding checkAnswerWith listVerdictWith walkVerdict
-  checking list unnamed = rw (checks-alike s never, walk-alike s (recordsOf list) unnamed)
+  unfolding checkAnswerUnder listVerdictUnder walkVerdict
+  checking list unnamed = rw (checks-alike s never, walk-alike unlimited s (recordsOf list) unnamed)
 
   -- The evaluator reads the terms of accepted sheets alone.
   evaluating : (zeroNumber : ℕ) (grouping : List ℕ) → evaluateAnswerWith 1 zeroNumber s grouping ≡ evaluateAnswer s grouping

@@ -1,5 +1,5 @@
--- Of a sheet that names lot 0 the lowest lot tells, in every service, by computation: where lots count from 1 it is refused by 5, and a split on lot 0 by 11; and
--- lot 0's number tells the evaluator's answers apart.
+-- Of a sheet that names lot 0 the lowest lot tells, in every service, by computation: where lots count from 1 it is refused by 5, and a split on lot 0 by 11;
+-- and lot 0's number tells the evaluator's answers apart.
 use Prim.Native.Nat.{ℕ}
 use mathlib.Core.List.{List, [], _∷_, flatten}
 use mathlib.Core.Path.{_≡_, refl}
@@ -14,7 +14,7 @@ use Rattle.equality.specs.Node.{merged, classes, marked, value, taken, groundOr
 use Rattle.equality.specs.Search.{isMet, afterSame, visitNode, visit, sameTerms, allSameTerms, searchTree, nodeCount, metDecisions, groupingBytes}
 use Rattle.equality.specs.Evaluator.{check8, groupingVerdictWith, lowestUnmet, evaluateAnswerWith}
 use Rattle.store.specs.Records.{encode, encodeAll, ofKind, decode, recordsOf}
-use Rattle.refutation.specs.Refutation.{groundFails, nearest, walkFrom, check10, walkVerdict, listVerdictWith, checkAnswerWith}
+use Rattle.refutation.specs.Refutation.{groundFails, nearest, walkFrom, check10, walkVerdict, listVerdictUnder, checkAnswerWith, checkAnswerUnder}
 use Rattle.outcome.specs.Nodes.{records}
 use Rattle.outcome.specs.Outcome.{resultOf, searchOutcomeWith}
 use Rattle.canonical.specs.Canonical.{termRecord, chainRecords, sheetRecords, headsFrom, canonical}
@@ -76,7 +76,7 @@ pub answers :
     ∷ refused 5 2 ∷ answered 26 0 0
     ∷ answered 26 0 0 ∷ answered 16 0 0
     ∷ []
-unfolding number twoBytes headAt signAt spareAt firstLotAt secondLotAt nextAt zeroBytes vacant firstRefusal lowestRefusal check1 check2 check3 check4 wellFormed check5 member walkChain walkChains walked check17And6 check7 sheetChecksWith sheetVerdictWith chain recordsFrom termsFrom countUp conditions readAnswerWith anyTerm someTerm merged classes marked value check8 groupingVerdictWith lowestUnmet evaluateAnswerWith ofKind decode recordsOf groundFails nearest walkFrom check10 walkVerdict listVerdictWith checkAnswerWith termRecord chainRecords sheetRecords headsFrom canonical flatten check16 repackVerdictWith repackAnswerWith repackOutWith equalTerms equalConditions repeats withoutRepeats whichRefusedWith mergedConditions check18 check19 mergeVerdictWith mergeAnswerWith mergeOutWith
+unfolding number twoBytes headAt signAt spareAt firstLotAt secondLotAt nextAt zeroBytes vacant firstRefusal lowestRefusal check1 check2 check3 check4 wellFormed check5 member walkChain walkChains walked check17And6 check7 sheetChecksWith sheetVerdictWith chain recordsFrom termsFrom countUp conditions readAnswerWith anyTerm someTerm merged classes marked value check8 groupingVerdictWith lowestUnmet evaluateAnswerWith ofKind decode recordsOf groundFails nearest walkFrom check10 walkVerdict listVerdictUnder checkAnswerUnder termRecord chainRecords sheetRecords headsFrom canonical flatten check16 repackVerdictWith repackAnswerWith repackOutWith equalTerms equalConditions repeats withoutRepeats whichRefusedWith mergedConditions check18 check19 mergeVerdictWith mergeAnswerWith mergeOutWith
 answers = refl
 
 -- The sheet that is refused, and the outputs.
@@ -90,7 +90,7 @@ pub outputs :
     ∷ room 27
     ∷ (1 ∷ 0 ∷ 2 ∷ 0 ∷ 2 ∷ 0 ∷ 1 ∷ 0 ∷ 2 ∷ 0 ∷ 2 ∷ 0 ∷ 1 ∷ 0 ∷ 1 ∷ 0 ∷ 0 ∷ 0 ∷ 1 ∷ 0 ∷ 1 ∷ 0 ∷ 0 ∷ 0 ∷ 0 ∷ 0 ∷ 170 ∷ [])
     ∷ [])
-unfolding number twoBytes headAt signAt spareAt firstLotAt secondLotAt nextAt zeroBytes vacant firstRefusal lowestRefusal check1 check2 check3 check4 wellFormed check5 member walkChain walkChains walked check17And6 check7 sheetChecksWith sheetVerdictWith chain recordsFrom termsFrom countUp conditions readAnswerWith anyTerm someTerm merged classes marked value check8 groupingVerdictWith lowestUnmet evaluateAnswerWith ofKind decode recordsOf groundFails nearest walkFrom check10 walkVerdict listVerdictWith checkAnswerWith termRecord chainRecords sheetRecords headsFrom canonical flatten check16 repackVerdictWith repackAnswerWith repackOutWith equalTerms equalConditions repeats withoutRepeats whichRefusedWith mergedConditions check18 check19 mergeVerdictWith mergeAnswerWith mergeOutWith
+unfolding number twoBytes headAt signAt spareAt firstLotAt secondLotAt nextAt zeroBytes vacant firstRefusal lowestRefusal check1 check2 check3 check4 wellFormed check5 member walkChain walkChains walked check17And6 check7 sheetChecksWith sheetVerdictWith chain recordsFrom termsFrom countUp conditions readAnswerWith anyTerm someTerm merged classes marked value check8 groupingVerdictWith lowestUnmet evaluateAnswerWith ofKind decode recordsOf groundFails nearest walkFrom check10 walkVerdict listVerdictUnder checkAnswerUnder termRecord chainRecords sheetRecords headsFrom canonical flatten check16 repackVerdictWith repackAnswerWith repackOutWith equalTerms equalConditions repeats withoutRepeats whichRefusedWith mergedConditions check18 check19 mergeVerdictWith mergeAnswerWith mergeOutWith
 outputs = (refl, refl)
 
 -- The search with both buffers, and what is printed: "refused 5 2"; "lots 1 conditions 1 terms 3", "split 1 0 0", "met 0".

@@ -10,7 +10,7 @@ use Rattle.sheet.specs.Format.{recordCount, firstLotAt, secondLotAt, vacant}
 use Rattle.sheet.specs.Conditions.{Term}
 use Rattle.sheet.specs.Answers.{readAnswer, readAnswerWith}
 use Rattle.equality.specs.Evaluator.{evaluateAnswer, evaluateAnswerWith}
-use Rattle.store.specs.Records.{NodeRecord, splitRecord, groundRecord, metRecord, noRecord, recordsOf}
+use Rattle.store.specs.Records.{NodeRecord, splitRecord, groundRecord, metRecord, cliqueRecord, noRecord, recordsOf}
 use Rattle.refutation.specs.Refutation.{checkAnswer, checkAnswerWith}
 use Rattle.outcome.specs.Outcome.{searchOutcome, searchOutcomeWith}
 use Rattle.repack.specs.Repack.{repackAnswer, repackAnswerWith, repackOut, repackOutWith}
@@ -32,6 +32,7 @@ abbrev pub RecordNeverNames : NodeRecord → Type 0
 RecordNeverNames (splitRecord a b next) = NotZero a × NotZero b
 RecordNeverNames (groundRecord c) = Unit {0}
 RecordNeverNames metRecord = Unit {0}
+RecordNeverNames cliqueRecord = Unit {0}
 RecordNeverNames noRecord = Unit {0}
 
 abbrev pub ListNeverNames : List ℕ → Type 0

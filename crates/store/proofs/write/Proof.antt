@@ -30,6 +30,12 @@ enum-told-2 c = search needs
 put-fields-requires-4 : tie.Need-put-fields-requires-4
 put-fields-requires-4 c κs = search needs
 
+enum-told-3 : tie.Need-enum-told-3
+enum-told-3 c = search needs
+
+put-fields-requires-5 : tie.Need-put-fields-requires-5
+put-fields-requires-5 c κs = search needs
+
 same-length : tie.Need-same-length
 same-length c = search needs
 
@@ -58,6 +64,13 @@ returns-4 : tie.Need-returns-4
 unfolding encode
 returns-4 c = let call = c .before .before in rw (call .before .before .enum-told2 .given .1) (call .put-fields4 .ensures)
 
+same-length-5 : tie.Need-same-length-5
+same-length-5 c = search needs
+
+returns-5 : tie.Need-returns-5
+unfolding encode
+returns-5 c = let call = c .before .before in rw (call .before .before .enum-told3 .given .1) (call .put-fields5 .ensures)
+
 pub write-spec : {M : Type 1} → statement M
 write-spec =
     tie.close
@@ -70,6 +83,8 @@ write-spec =
     put-fields-requires-3
     enum-told-2
     put-fields-requires-4
+    enum-told-3
+    put-fields-requires-5
     same-length
     returns
     same-length-2
@@ -77,4 +92,6 @@ write-spec =
     same-length-3
     returns-3
     same-length-4
-    returns-4)
+    returns-4
+    same-length-5
+    returns-5)

@@ -34,6 +34,9 @@ enum-told c = search needs
 enum-told-2 : tie.Need-enum-told-2
 enum-told-2 c = search needs
 
+enum-told-3 : tie.Need-enum-told-3
+enum-told-3 c = search needs
+
 same-length : tie.Need-same-length
 same-length c = search needs
 
@@ -59,6 +62,10 @@ returns-4 : tie.Need-returns-4
 unfolding recordLine
 returns-4 c = rw (c .enum-told2 .given .1) (nothing _ _)
 
+returns-5 : tie.Need-returns-5
+unfolding recordLine
+returns-5 c = rw (c .enum-told3 .given .1) (nothing _ _)
+
 pub record-line-spec : {M : Type 1} → statement M
 record-line-spec =
     tie.close
@@ -71,9 +78,11 @@ record-line-spec =
     number-line-requires
     enum-told
     enum-told-2
+    enum-told-3
     same-length
     returns
     same-length-2
     returns-2
     returns-3
-    returns-4)
+    returns-4
+    returns-5)
