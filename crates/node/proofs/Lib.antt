@@ -2,3 +2,5 @@ mod Scanning
 pub mod Settling
 mod Opening
 mod Resuming
+mod Pairing
+mod Leaving

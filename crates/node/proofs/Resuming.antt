@@ -37,7 +37,7 @@ module _ (s : List ℕ) (c from : ℕ) (ds : Decisions) (w : ResumesWithin s c f
   pub rest-decides : node ds (conditions s) ≡ groundOrSplit ds c (termsFrom s from)
   unfolding node
   rest-decides =
-      ap (nodeOf ds) (w .condition)
+      ap (nodeOf met ds) (w .condition)
       ∙ ap (groundOrSplit ds c) (w .passes .place)
       ∙ passed-by ds c (w .passes .passed) (termsFrom s from) (passed-none ds s (headAt s c) from (w .passes))
 

@@ -16,7 +16,7 @@ use Rattle.sheet.specs.Conditions.{Term, same, apart, termOf, termAt, termsFrom
 use Rattle.sheet.proofs.Conditions.{conditions-length}
 use Rattle.sheet.proofs.ChainEnds.{terms-step}
 use Rattle.equality.specs.Meaning.{holds, anyTerm, meetsCondition}
-use Rattle.equality.specs.Node.{Decisions, merged, classOf, classes, takes, taken, split, nodeOf, node}
+use Rattle.equality.specs.Node.{Decisions, merged, classOf, classes, takes, taken, met, split, nodeOf, node}
 use Rattle.buffers.proofs.Lists.{all-map}
 use Rattle.equality.proofs.Some.{any-false, any-none, any-here, some-found}
 use Rattle.equality.proofs.Node.{taken-values, passed-by-classes}
@@ -118,7 +118,7 @@ split-settles ds s c a b e t =
     first : OpenAt ds (conditionAt s c) a b
     first =
         open-at ds c (conditionAt s c) a b (taken-values ds (conditionAt s c) (taken-at ds 1 (conditions s) c (conditionAt s c) t .unmet))
-        (sym (ap (nodeOf ds) t) ∙ e)
+        (sym (ap (nodeOf met ds) t) ∙ e)
 
 -- The condition taken is one of the sheet's.
 pub taken-number : (ds : Decisions) (s : List ℕ) (c : ℕ) (ts : List Term) → taken ds 1 (conditions s) ≡ takes c ts → (1 ≤ c) × (c ≤ conditionCount s)
@@ -206,7 +206,17 @@ taken-unsettled ds s levels level i l t = go (eqb (getD levels i 0) 0) refl
         ∙ passed-by-classes ds (conditionAt s (suc i))
         ∙ settled-met (classes ds) (conditionAt s (suc i)) (l .each i (eqb-false _ _ e))))
 
--- In the same branch, of the next level, what was settled is, and so is the condition taken.
+-- In the same branch, of the next level, what was settled is,
+pub joined-settled : (cs s levels : List ℕ) (a b level : ℕ) → Settled cs s levels level → Settled (merged (classOf cs a) (classOf cs b) cs) s levels (level + 1)
+joined-settled cs s levels a b level l =
+    record {
+      low = omega arith;
+      sized = l .sized;
+      high = λ i. omega (arith, l .high i);
+      each = λ i n. settled-joined _ _ cs (conditionAt s (suc i)) (l .each i n);
+    }
+
+-- and so is the condition taken.
 module _ (ds : Decisions) (s levels : List ℕ) (c a b level : ℕ) (l : Settled (classes ds) s levels level)
     (e : node ds (conditions s) ≡ split a b) (t : taken ds 1 (conditions s) ≡ takes c (conditionAt s c)) where
   number : suc (c - 1) ≡ c
@@ -215,18 +225,9 @@ module _ (ds : Decisions) (s levels : List ℕ) (c a b level : ℕ) (l : Settled
   place : c - 1 < length levels
   place = omega (arith, taken-number ds s c (conditionAt s c) t, l .sized)
 
-  joined-settled : Settled (merged (classOf (classes ds) a) (classOf (classes ds) b) (classes ds)) s levels (level + 1)
-  joined-settled =
-      record {
-        low = omega arith;
-        sized = l .sized;
-        high = λ i. omega (arith, l .high i);
-        each = λ i n. settled-joined _ _ (classes ds) (conditionAt s (suc i)) (l .each i n);
-      }
-
   pub same-settled : Settled (merged (classOf (classes ds) a) (classOf (classes ds) b) (classes ds)) s (set levels (c - 1) (level + 1)) (level + 1)
   same-settled =
-      settled-here levels (c - 1) (level + 1) place (merged (classOf (classes ds) a) (classOf (classes ds) b) (classes ds)) s joined-settled
+      settled-here levels (c - 1) (level + 1) place (merged (classOf (classes ds) a) (classOf (classes ds) b) (classes ds)) s (joined-settled (classes ds) s levels a b level l)
       (rw number (split-settles ds s c a b e t))
 
   pub same-later : Later levels (set levels (c - 1) (level + 1)) (level + 1)

@@ -1,32 +1,42 @@
 // One node of the search: the condition that it takes, and what it is.
 ghost use mathlib.Core.Path.{_≡_};
-ghost use Prim.Native.Nat.{_-_, _≤_};
+ghost use mathlib.Core.Bool.{cond};
+ghost use Prim.Native.Nat.{ℕ, _-_, _≤_, _<_};
+ghost use mathlib.Core.List.{List};
+ghost use lib.Dec.{eqb};
 ghost use lib.ListN.{length, set};
+ghost use Rattle.sheet.specs.Format.{mostLots};
 ghost use Rattle.sheet.specs.Conditions.{conditions};
 ghost use Rattle.equality.specs.Node.{Decisions, classes, node};
+ghost use Rattle.limit.specs.Meaning.{Limit, upTo};
+ghost use Rattle.limit.specs.Rule.{noneTaken, nodeUnder};
+ghost use Rattle.limit.specs.Scan.{ScanFrom, limitOf};
 ghost use Rattle.classes.specs.Maps.{ClassMap};
 ghost use Rattle.classes.specs.Pairs.{Represents};
 ghost use Rattle.marks.specs.Marks.{tableLength, Room, Marks, Outside};
-ghost use Rattle.node.specs.declared.Place.the-variants.{Within};
 ghost use Rattle.sheet.specs.Inner.{HasConditions, OnChain};
 ghost use Rattle.node.specs.Settled.{Settled, Later, ClearedAbove};
-ghost use Rattle.node.specs.Place.{Markable, ResumesWithin, Resumes, Stands, PlaceWithin, nodeAs, splitOn, Leaves};
+ghost use Rattle.node.specs.Place.{Markable, ResumesWithin, Resumes, Stands, PlaceWithin, nodeAs, splitOn, TermLeaves, PairNode, apartPlace, Leaves};
 use classes::Classes;
+use clique::Found;
 use sheet::Condition;
 use sheet::Lot;
 use sheet::Record;
 use sheet::SAME;
 use sheet::Term;
 
-// Where the terms of a node are looked at: nobody knows yet, and the conditions are to be scanned; within the condition that it takes, from a record on; or
-// nowhere, since it takes none. (The apart branch of a split takes the split's condition, and no term of it up to the split's is open any more.)
+// Where a node is looked at: nobody knows yet, and the conditions are to be scanned; within the condition that it takes, from a record on; nowhere, since it
+// takes none; or after a pair of classes, where it takes none under a limit. (The apart branch of a split takes the split's condition, and no term of it up to
+// the split's is open any more. Where the split took none it takes none, and no pair of classes up to the split's is unmarked.)
 pub enum Place {
     Scan,
     Within(Condition, Record),
     Nowhere,
+    After(Lot, Lot),
 }
 
-// A split: its condition and its lots, and the record after the term that it splits on, where the apart branch resumes.
+// A split: its condition and its lots, and the record after the term that it splits on, where the apart branch resumes. A split on a pair of classes has
+// condition 0, and its apart branch resumes after the pair.
 pub struct Split {
     pub condition: Condition,
     pub a: Lot,
@@ -37,9 +47,14 @@ pub struct Split {
 impl Split {
     // Where the apart branch goes on.
     pub fn apart_place(self) -> Place
-        ensures { λ r. ⌜ r ≡ Within (self .condition) (self .after) ⌝ }
+        ensures { λ r. ⌜ r ≡ apartPlace self ⌝ }
     {
         let c = self.condition;
+        if c.0 == 0 {
+            let a = self.a;
+            let b = self.b;
+            return Place::After(a, b);
+        }
         let after = self.after;
         Place::Within(c, after)
     }
@@ -50,6 +65,7 @@ pub enum Node {
     Met,
     Ground(Condition),
     Split(Split),
+    Clique,
 }
 
 // The lowest-numbered condition that has no true term and no open "apart" term, and isn't withdrawn. A condition is passed over exactly where the classes meet
@@ -59,7 +75,7 @@ pub enum Node {
 // next record is known before its number is read: the loop over a run need not wait for it.
 pub fn scan(sheet: &[u8], m: u16, map: Classes, levels: &mut [u16], level: u16) -> Place
     requires { ⌜ HasConditions (now sheet) m × Settled (map .lots) (now sheet) (now levels) level ⌝ }
-    ensures stands { λ r. ⌜ ((ds : Decisions) → map .lots ≡ classes ds → Stands (now (sheet .entry)) r ds) ⌝ }
+    ensures stands { λ r. ⌜ ((limit : Limit) (lots : ℕ) (ds : Decisions) → map .lots ≡ classes ds → Stands limit lots (now (sheet .entry)) r ds) ⌝ }
     ensures within { λ r. ⌜ PlaceWithin (now (sheet .entry)) r ⌝ }
     ensures settled { λ r. ⌜ Settled (map .lots) (now (sheet .entry)) (now (levels .exit)) level ⌝ }
     ensures later { λ r. ⌜ Later (now (levels .entry)) (now (levels .exit)) level ⌝ }
@@ -106,12 +122,14 @@ pub fn scan(sheet: &[u8], m: u16, map: Classes, levels: &mut [u16], level: u16) 
     }
 }
 
-// Notes that a condition is settled at a level.
+// Notes that a condition is settled at a level. Condition 0 is none.
 pub fn settle(levels: &mut [u16], c: Condition, level: u16)
-    requires { ⌜ (1 ≤ c .0) × (c .0 ≤ length (now levels)) ⌝ }
-    ensures { λ _. ⌜ now (levels .exit) ≡ set (now (levels .entry)) (c .0 - 1) level ⌝ }
+    requires { ⌜ c .0 ≤ length (now levels) ⌝ }
+    ensures { λ _. ⌜ now (levels .exit) ≡ cond (eqb (c .0) 0) (now (levels .entry)) (set (now (levels .entry)) (c .0 - 1) level) ⌝ }
 {
-    levels[(c.0 - 1) as usize] = level;
+    if c.0 != 0 {
+        levels[(c.0 - 1) as usize] = level;
+    }
 }
 
 // Forgets every level above one: what those paths joined is joined no more.
@@ -137,7 +155,7 @@ pub fn locate(
     level: u16,
 ) -> Place
     requires { ⌜ HasConditions (now sheet) m × PlaceWithin (now sheet) from × Settled (map .lots) (now sheet) (now levels) level ⌝ }
-    ensures stands { λ r. ⌜ ((ds : Decisions) → map .lots ≡ classes ds → Resumes (now (sheet .entry)) from ds → Stands (now (sheet .entry)) r ds) ⌝ }
+    ensures stands { λ r. ⌜ ((limit : Limit) (lots : ℕ) (ds : Decisions) → map .lots ≡ classes ds → Resumes limit lots (now (sheet .entry)) from ds → Stands limit lots (now (sheet .entry)) r ds) ⌝ }
     ensures within { λ r. ⌜ PlaceWithin (now (sheet .entry)) r ⌝ }
     ensures settled { λ r. ⌜ Settled (map .lots) (now (sheet .entry)) (now (levels .exit)) level ⌝ }
     ensures later { λ r. ⌜ Later (now (levels .entry)) (now (levels .exit)) level ⌝ }
@@ -146,6 +164,7 @@ pub fn locate(
         Place::Scan => scan(sheet, m, map, levels, level),
         Place::Within(c, after) => Place::Within(c, after),
         Place::Nowhere => Place::Nowhere,
+        Place::After(x, y) => Place::After(x, y),
     }
 }
 
@@ -178,7 +197,7 @@ fn first_unmarked(
 ) -> Node
     requires { ⌜ HasConditions (now sheet) m × ClassMap (now lots) × Room (now pairs) table × OnChain (now sheet) (from .0) ⌝ }
     ensures node { λ r. ⌜ ((ds : Decisions) → now (lots .entry) ≡ classes ds → Marks (now (pairs .entry)) table (now (lots .entry)) ds → ResumesWithin (now (sheet .entry)) (condition .0) (from .0) ds → nodeAs r ≡ node ds (conditions (now (sheet .entry)))) ⌝ }
-    ensures leaves { λ r. ⌜ ((ds : Decisions) → now (lots .entry) ≡ classes ds → Marks (now (pairs .entry)) table (now (lots .entry)) ds → ResumesWithin (now (sheet .entry)) (condition .0) (from .0) ds → Leaves (now (sheet .entry)) r ds) ⌝ }
+    ensures leaves { λ r. ⌜ ((ds : Decisions) → now (lots .entry) ≡ classes ds → Marks (now (pairs .entry)) table (now (lots .entry)) ds → ResumesWithin (now (sheet .entry)) (condition .0) (from .0) ds → TermLeaves (now (sheet .entry)) r ds) ⌝ }
 {
     let mut at = from;
     // In runs of records that follow each other, as the scan goes.
@@ -216,7 +235,7 @@ fn by_table(
 ) -> Node
     requires { ⌜ HasConditions (now sheet) m × Markable map (now pairs) count × OnChain (now sheet) (from .0) ⌝ }
     ensures node { λ r. ⌜ ((ds : Decisions) → Represents map (now (pairs .entry)) count ds → ResumesWithin (now (sheet .entry)) (condition .0) (from .0) ds → nodeAs r ≡ node ds (conditions (now (sheet .entry)))) ⌝ }
-    ensures leaves { λ r. ⌜ ((ds : Decisions) → Represents map (now (pairs .entry)) count ds → ResumesWithin (now (sheet .entry)) (condition .0) (from .0) ds → Leaves (now (sheet .entry)) r ds) ⌝ }
+    ensures leaves { λ r. ⌜ ((ds : Decisions) → Represents map (now (pairs .entry)) count ds → ResumesWithin (now (sheet .entry)) (condition .0) (from .0) ds → TermLeaves (now (sheet .entry)) r ds) ⌝ }
     ensures outside { λ r. ⌜ Outside (now (pairs .entry)) (now (pairs .exit)) (length (now (pairs .entry)) - tableLength) ⌝ }
 {
     let table = pairs.len() - marks::TABLE_LENGTH;
@@ -236,7 +255,7 @@ fn first_open(
 ) -> Node
     requires { ⌜ HasConditions (now sheet) m × Markable map (now pairs) count × OnChain (now sheet) (from .0) ⌝ }
     ensures node { λ r. ⌜ ((ds : Decisions) → Represents map (now (pairs .entry)) count ds → ResumesWithin (now (sheet .entry)) (condition .0) (from .0) ds → nodeAs r ≡ node ds (conditions (now (sheet .entry)))) ⌝ }
-    ensures leaves { λ r. ⌜ ((ds : Decisions) → Represents map (now (pairs .entry)) count ds → ResumesWithin (now (sheet .entry)) (condition .0) (from .0) ds → Leaves (now (sheet .entry)) r ds) ⌝ }
+    ensures leaves { λ r. ⌜ ((ds : Decisions) → Represents map (now (pairs .entry)) count ds → ResumesWithin (now (sheet .entry)) (condition .0) (from .0) ds → TermLeaves (now (sheet .entry)) r ds) ⌝ }
     ensures outside { λ r. ⌜ Outside (now (pairs .entry)) (now (pairs .exit)) (length (now (pairs .entry)) - tableLength) ⌝ }
 {
     let mut at = from;
@@ -260,8 +279,44 @@ fn first_open(
     by_table(sheet, m, map, pairs, count, condition, at)
 }
 
-// The node of a path, whose classes and pairs set apart are given: met where it takes no condition, otherwise a ground or a split of the condition taken.
-// (Where it is not known, nothing is said: `locate` is asked first.) The last bytes of the pairs are for a table; all others are left as they are.
+// What a node is that takes no condition under a limit, whose pairs of classes may be looked at from lots x and y on: met, where no more classes are left than
+// the limit; a split on the first pair that isn't marked apart; else a clique. The table is marked for this node alone: it costs the pairs set apart and, for
+// each of these classes, the lots up to the last of them, not the product of pairs and pairs.
+fn under_limit(
+    map: Classes,
+    lots: u16,
+    limit: u16,
+    pairs: &mut [u8],
+    count: usize,
+    x: usize,
+    y: usize,
+) -> Node
+    requires { ⌜ Markable map (now pairs) count × (lots ≤ mostLots) × (x < y) ⌝ }
+    ensures node { λ r. ⌜ ((ds : Decisions) → Represents map (now (pairs .entry)) count ds → ScanFrom limit lots x y ds → nodeAs r ≡ noneTaken (upTo limit) lots ds) ⌝ }
+    ensures pair { λ r. ⌜ PairNode r ⌝ }
+    ensures outside { λ r. ⌜ Outside (now (pairs .entry)) (now (pairs .exit)) (length (now (pairs .entry)) - tableLength) ⌝ }
+{
+    let first = clique::first_classes(&map.lots, lots, limit);
+    if first.count <= (limit as usize) {
+        return Node::Met;
+    }
+    let place = pairs.len() - marks::TABLE_LENGTH;
+    marks::stamp_pairs(pairs, place, &map.lots, count);
+    let found = clique::first_open(&map.lots, pairs, place, x, y, first.end);
+    match found {
+        Found::Open(low, high) => Node::Split(Split {
+            condition: Condition(0),
+            a: low,
+            b: high,
+            after: Record(0),
+        }),
+        Found::Clique => Node::Clique,
+    }
+}
+
+// The node of a path, whose classes and pairs set apart are given, without regard to any limit: met where it takes no condition, otherwise a ground or a split
+// of the condition taken. (Where it is not known, nothing is said: `locate` is asked first.) The last bytes of the pairs are for a table; all others are left
+// as they are.
 pub fn node_at(
     sheet: &[u8],
     m: u16,
@@ -271,13 +326,45 @@ pub fn node_at(
     place: Place,
 ) -> Node
     requires { ⌜ HasConditions (now sheet) m × Markable map (now pairs) count × PlaceWithin (now sheet) place ⌝ }
-    ensures node { λ r. ⌜ ((ds : Decisions) → Represents map (now (pairs .entry)) count ds → Stands (now (sheet .entry)) place ds → nodeAs r ≡ node ds (conditions (now (sheet .entry)))) ⌝ }
-    ensures leaves { λ r. ⌜ ((ds : Decisions) → Represents map (now (pairs .entry)) count ds → Stands (now (sheet .entry)) place ds → Leaves (now (sheet .entry)) r ds) ⌝ }
+    ensures node { λ r. ⌜ ((limit : Limit) (lots : ℕ) (ds : Decisions) → Represents map (now (pairs .entry)) count ds → Stands limit lots (now (sheet .entry)) place ds → nodeAs r ≡ node ds (conditions (now (sheet .entry)))) ⌝ }
+    ensures leaves { λ r. ⌜ ((limit : Limit) (lots : ℕ) (ds : Decisions) → Represents map (now (pairs .entry)) count ds → Stands limit lots (now (sheet .entry)) place ds → TermLeaves (now (sheet .entry)) r ds) ⌝ }
     ensures outside { λ r. ⌜ Outside (now (pairs .entry)) (now (pairs .exit)) (length (now (pairs .entry)) - tableLength) ⌝ }
 {
     match place {
         Place::Within(c, from) => first_open(sheet, m, map, pairs, count, c, from),
         Place::Nowhere => Node::Met,
+        Place::After(_, _) => Node::Met,
         Place::Scan => Node::Met,
+    }
+}
+
+// The same node under a limit or, where that is 0, none, of lots 0 to `lots`: one that takes a condition is what it is without a limit. Apart from `node_at`,
+// so that a search's level has one copy of the map for each of the two, and not one more.
+pub fn limited(
+    found: Node,
+    map: Classes,
+    lots: u16,
+    limit: u16,
+    pairs: &mut [u8],
+    count: usize,
+    place: Place,
+) -> Node
+    requires { ⌜ Markable map (now pairs) count × (lots ≤ mostLots) × ((s : List ℕ) × PlaceWithin s place) ⌝ }
+    ensures node { λ r. ⌜ ((s : List ℕ) (ds : Decisions) → Represents map (now (pairs .entry)) count ds → Stands (limitOf limit) lots s place ds → nodeAs found ≡ node ds (conditions s) → nodeAs r ≡ nodeUnder (limitOf limit) lots (conditions s) ds) ⌝ }
+    ensures leaves { λ r. ⌜ ((s : List ℕ) (ds : Decisions) → Represents map (now (pairs .entry)) count ds → Stands (limitOf limit) lots s place ds → TermLeaves s found ds → Leaves (limitOf limit) lots s r ds) ⌝ }
+    ensures outside { λ r. ⌜ Outside (now (pairs .entry)) (now (pairs .exit)) (length (now (pairs .entry)) - tableLength) ⌝ }
+{
+    if limit == 0 {
+        return found;
+    }
+    match place {
+        Place::Within(_, _) => found,
+        Place::Nowhere => under_limit(map, lots, limit, pairs, count, 0, 1),
+        Place::After(x, y) => {
+            let low = x.0 as usize;
+            let next = (y.0 as usize) + 1;
+            under_limit(map, lots, limit, pairs, count, low, next)
+        }
+        Place::Scan => found,
     }
 }

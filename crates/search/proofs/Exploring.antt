@@ -10,8 +10,8 @@ use lib.Dec.{leb}
 use lib.ListN.{length, length-append}
 use lib.Seq.{sets, length-sets}
 use Rattle.equality.specs.Node.{Decisions}
-use Rattle.equality.specs.Search.{Tree, metLeaf, groundLeaf, oneBranch, twoBranches, isMet, nodeCount, metDecisions, groupingBytes}
-use Rattle.store.specs.Records.{NodeRecord, splitRecord, groundRecord, metRecord, recordLength, setNext, encode, encodeAll, mostNodes, capacity}
+use Rattle.equality.specs.Search.{Tree, metLeaf, groundLeaf, cliqueLeaf, oneBranch, twoBranches, isMet, nodeCount, metDecisions, groupingBytes}
+use Rattle.store.specs.Records.{NodeRecord, splitRecord, groundRecord, metRecord, cliqueRecord, recordLength, setNext, encode, encodeAll, mostNodes, capacity}
 use Rattle.outcome.specs.Nodes.{records}
 use Rattle.store.proofs.Codec.{encode-length, encodeAll-append}
 use Rattle.outcome.proofs.Fitting.{bytes-count, node-count}
@@ -74,6 +74,17 @@ module _ (before : ℕ) (store store′ grouping : List ℕ) (room : before < ca
       (record {
         ends = fits-end (capacity store) before (groundLeaf c) false (omega arith) refl;
         stored = λ fits. stored ∙ ap (sets store (recordLength * before)) (sym (append-nil (encode (groundRecord c))));
+        grouped = refl;
+      })
+
+  pub clique-explored : (t : Tree) → t ≡ cliqueLeaf → store′ ≡ sets store (recordLength * before) (encode cliqueRecord)
+      → Explored before store store′ grouping grouping (Cannot (before + 1)) t
+  unfolding isMet nodeCount records encodeAll
+  clique-explored t leaf stored =
+      rw leaf
+      (record {
+        ends = fits-end (capacity store) before cliqueLeaf false (omega arith) refl;
+        stored = λ fits. stored ∙ ap (sets store (recordLength * before)) (sym (append-nil (encode cliqueRecord)));
         grouped = refl;
       })
 

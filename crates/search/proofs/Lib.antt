@@ -4,5 +4,6 @@ pub mod Standing
 pub mod Splitting
 pub mod Room
 pub mod Promised
+pub mod Without
 pub mod Ending
 pub mod Entry

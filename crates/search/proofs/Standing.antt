@@ -1,72 +1,111 @@
--- The path of a visit, as its map and its pairs represent it: what each branch of a split makes of it, and the open "same" terms that fall.
+-- The path of a visit, as its map and its pairs represent it: what each branch of a split makes of it, and what is open, which falls.
 use Prim.Native.Nat.{ℕ, zero, suc, _+_, _*_, _-_, _≤_, _<_}
-use mathlib.Core.Bool.{Bool, _||_}
+use mathlib.Core.Bool.{Bool, true, false, cond, _||_}
 use mathlib.Core.List.{List, [], _∷_}
 use mathlib.Core.Path.{_≡_, refl, sym, ap, ap₂, fun-ext, _∙_}
 use native.Mathlib.Omega.{arith}
+use borrow.Author.Tests.{eqb-true}
 use lib.Dec.{eqb}
 use lib.ListN.{length, getD, set, take, replicate, length-set, length-replicate}
 use lib.Seq.{length-take-le}
-use Rattle.sheet.specs.Format.{mostLots, conditionCount}
+use Rattle.sheet.specs.Format.{mostLots, lotCount, conditionCount}
 use Rattle.sheet.specs.Checks.{Accepted}
 use Rattle.sheet.specs.Conditions.{same, apart, conditionAt, conditions}
-use Rattle.equality.specs.Node.{Decisions, classes, merged, classOf, marked, takes, taken, split, node}
-use Rattle.equality.proofs.Small.{conditions-small}
+use Rattle.sheet.proofs.Accepted.{sound}
+use Rattle.sheet.proofs.Conditions.{conditions-in}
+use Rattle.equality.specs.Node.{Decisions, classes, merged, classOf, marked, split}
 use Rattle.equality.proofs.Least.{least}
 use Rattle.equality.proofs.Node.{taken-apart}
-use Rattle.equality.specs.Opens.{Small, openInAll, allOpens}
-use Rattle.equality.proofs.Rule.{split-at}
-use Rattle.equality.proofs.Opens.{split-all, same-fewer, apart-fewer}
+use Rattle.limit.specs.Meaning.{Limit, unlimited, upTo}
+use Rattle.limit.specs.Rule.{nodeUnder}
+use Rattle.limit.specs.Search.{openBy}
+use Rattle.limit.specs.Scan.{limitOf}
+use Rattle.limit.proofs.Under.{split-open, under-branches}
+use Rattle.limit.proofs.Resumes.{under-takes}
 use Rattle.classes.specs.declared.Classes.{Classes}
 use Rattle.classes.specs.Pairs.{setApart, withPair, PairsWithin, Untouched}
 use Rattle.classes.proofs.Path.{pair-leaves, new-represents, join-represents, apart-represents, below-represents, represented-within, smallest-says, marked-says}
 use Rattle.classes.proofs.Maps.{class-map}
 use Rattle.marks.specs.Marks.{tableLength}
 use Rattle.node.specs.declared.Place.{Place}
-use Rattle.node.specs.declared.Place.the-variants.{Scan, Within, Nowhere}
-use Rattle.node.specs.Place.{Markable, ResumesWithin, Resumes, PlaceWithin}
+use Rattle.node.specs.declared.Place.the-variants.{Scan, Within, Nowhere, After}
+use Rattle.node.specs.declared.Split.{Split}
+use Rattle.node.specs.Place.{Markable, ResumesPair, Resumes, PlaceWithin, SplitLeaves}
 use Rattle.node.specs.Settled.{Settled, Later}
-use Rattle.node.proofs.Settling.{taken-number, same-settled, same-later, later-through}
+use Rattle.node.proofs.Settling.{taken-number, joined-settled, same-settled, same-later, later-none, later-through}
 use Rattle.search.specs.Limits.{pairsRoom}
-use Rattle.search.specs.Visited.{Standing, LevelWithin}
+use Rattle.search.specs.Visited.{ruleOf, openLeft, Standing, LevelWithin}
 use Rattle.classes.specs.Maps.{ClassesWithin}
 use Rattle.search.proofs.Limits.{opens-within, pairs-enough, pairs-count, levels-enough, level-fits}
 
--- ---- the open "same" terms, counted by the map and the pairs: the measure of the visits
+-- ---- what is open, counted by the map and the pairs: the measure of the visits
 
 -- The lots share an entry, or their entries are marked apart by the pairs.
 abbrev shutBy : List ℕ → List ℕ → ℕ → ℕ → ℕ → Bool
 shutBy lots pairs count a b =
     eqb (classOf lots a) (classOf lots b) || marked lots (setApart pairs count) (classOf lots a) (classOf lots b)
 
-pub openByMap : List ℕ → List ℕ → List ℕ → ℕ → ℕ
-openByMap s lots pairs count = openInAll (shutBy lots pairs count) (conditions s)
+pub openByMap : ℕ → List ℕ → List ℕ → List ℕ → ℕ → ℕ
+openByMap limit s lots pairs count = openBy (limitOf limit) (lotCount s) (conditions s) (shutBy lots pairs count)
 
 -- ---- the path
 
 -- Where a visit may go on is within the sheet.
-pub place-within : (s : List ℕ) (from : Place) (ds : Decisions) → Resumes s from ds → PlaceWithin s from
-place-within s Scan ds resumes = tt
-place-within s (Within c r) ds resumes = resumes .passes .on
-place-within s Nowhere ds resumes = tt
+pub place-within : (limit : Limit) (s : List ℕ) (from : Place) (ds : Decisions) → Resumes limit (lotCount s) s from ds → PlaceWithin s from
+place-within limit s Scan ds resumes = tt
+place-within limit s (Within c r) ds resumes = resumes .passes .on
+place-within limit s Nowhere ds resumes = tt
+place-within limit s (After x y) ds resumes = go limit resumes
+  where
+    go : (l : Limit) → ResumesPair l (lotCount s) s (x .0) (y .0) ds → x .0 < y .0
+    go unlimited w = absurd w
+    go (upTo g) w = w .rises
 
--- The condition of a split is one of the sheet's;
-pub split-number : (s : List ℕ) (c a b r : ℕ) (ds : Decisions) → ResumesWithin s c r (apart a b ∷ ds) → (1 ≤ c) × (c ≤ conditionCount s)
-split-number s c a b r ds w = taken-number (apart a b ∷ ds) s c (conditionAt s c) (w .condition)
+-- What a split leaves, by whether it has a condition.
+abbrev LeavesBy : Limit → ℕ → List ℕ → Split → Decisions → Bool → Type 0
+LeavesBy limit n s on ds p = Resumes limit n s (cond p (After (on .a) (on .b)) (Within (on .condition) (on .after))) (apart (on .a .0) (on .b .0) ∷ ds)
 
--- its same branch is of the next level, in which the condition is settled;
-module _ (s cs settled : List ℕ) (c a b r level : ℕ) (ds : Decisions) (says : cs ≡ classes ds) (l : Settled cs s settled level)
-    (e : node ds (conditions s) ≡ split a b) (w : ResumesWithin s c r (apart a b ∷ ds)) where
-  taken-first : taken ds 1 (conditions s) ≡ takes c (conditionAt s c)
-  taken-first = sym (taken-apart ds a b 1 (conditions s)) ∙ w .condition
+-- A split's condition is one of the sheet's, or 0;
+pub split-number : (limit : Limit) (n : ℕ) (s : List ℕ) (on : Split) (ds : Decisions) → SplitLeaves limit n s on ds → on .condition .0 ≤ conditionCount s
+split-number limit n s on ds w = go (eqb (on .condition .0) 0) refl w
+  where
+    go : (p : Bool) → eqb (on .condition .0) 0 ≡ p → LeavesBy limit n s on ds p → on .condition .0 ≤ conditionCount s
+    go true q w = omega (arith, eqb-true (on .condition .0) 0 q)
+    go false q w = taken-number (apart (on .a .0) (on .b .0) ∷ ds) s (on .condition .0) (conditionAt s (on .condition .0)) (w .condition) .1
 
-  pub under-settled : (cs′ settled₁ : List ℕ) → cs′ ≡ merged (classOf cs a) (classOf cs b) cs → settled₁ ≡ set settled (c - 1) (level + 1) → Settled cs′ s settled₁ (level + 1)
-  under-settled cs′ settled₁ joined written = rw written (rw joined (rw says (same-settled ds s settled c a b level (rw says at l) e taken-first)))
+-- The levels of its same branch: the condition is noted, if it has one.
+abbrev pub notedBy : Split → List ℕ → ℕ → Bool → List ℕ
+notedBy on settled level p = cond p settled (set settled (on .condition .0 - 1) (level + 1))
 
-  -- and whatever that branch wrote, the levels above this one are later ones.
-  pub under-later : (settled₁ settled′ : List ℕ) → settled₁ ≡ set settled (c - 1) (level + 1) → Later settled₁ settled′ (level + 1) → Later settled settled′ (level + 1)
-  under-later settled₁ settled′ written later =
-      later-through settled settled₁ settled′ (level + 1) (rw written (same-later ds s settled c a b level (rw says at l) e taken-first)) later
+-- That branch is of the next level, in which the condition is settled;
+module _ (limit : Limit) (n : ℕ) (s : List ℕ) (on : Split) (ds : Decisions) (settled : List ℕ) (level : ℕ) where
+  joined : List ℕ
+  joined = merged (classOf (classes ds) (on .a .0)) (classOf (classes ds) (on .b .0)) (classes ds)
+
+  settled-both : Settled (classes ds) s settled level → nodeUnder limit n (conditions s) ds ≡ split (on .a .0) (on .b .0)
+      → (p : Bool) → eqb (on .condition .0) 0 ≡ p → LeavesBy limit n s on ds p → Settled joined s (notedBy on settled level p) (level + 1) × Later settled (notedBy on settled level p) (level + 1)
+  unfolding joined
+  settled-both l e true q w = (joined-settled (classes ds) s settled (on .a .0) (on .b .0) level l, later-none settled (level + 1))
+  settled-both l e false q w =
+      let taken-first = sym (taken-apart ds (on .a .0) (on .b .0) 1 (conditions s)) ∙ w .condition in
+      let here = sym (under-takes limit n (conditions s) ds (on .condition .0) (conditionAt s (on .condition .0)) taken-first) ∙ e in (
+        same-settled ds s settled (on .condition .0) (on .a .0) (on .b .0) level l here taken-first,
+        same-later ds s settled (on .condition .0) (on .a .0) (on .b .0) level l here taken-first,
+      )
+
+  module _ (cs : List ℕ) (says : cs ≡ classes ds) (l : Settled cs s settled level) (e : nodeUnder limit n (conditions s) ds ≡ split (on .a .0) (on .b .0))
+      (w : SplitLeaves limit n s on ds) where
+    both : Settled joined s (notedBy on settled level (eqb (on .condition .0) 0)) (level + 1) × Later settled (notedBy on settled level (eqb (on .condition .0) 0)) (level + 1)
+    both = settled-both (rw says at l) e (eqb (on .condition .0) 0) refl w
+
+    pub under-settled : (cs′ settled₁ : List ℕ) → cs′ ≡ merged (classOf cs (on .a .0)) (classOf cs (on .b .0)) cs → settled₁ ≡ notedBy on settled level (eqb (on .condition .0) 0)
+        → Settled cs′ s settled₁ (level + 1)
+    unfolding joined
+    under-settled cs′ settled₁ joined′ written = rw written (rw joined′ (rw says (both .0)))
+
+    -- and whatever that branch wrote, the levels above this one are later ones.
+    pub under-later : (settled₁ settled′ : List ℕ) → settled₁ ≡ notedBy on settled level (eqb (on .condition .0) 0) → Later settled₁ settled′ (level + 1) → Later settled settled′ (level + 1)
+    under-later settled₁ settled′ written later = later-through settled settled₁ settled′ (level + 1) (rw written (both .1)) later
 
 -- With no decision no condition is settled.
 none-settled : (n m i : ℕ) → _≡_ {A = ℕ} (getD (take m (replicate n 0)) i 0) 0
@@ -85,25 +124,26 @@ start-settled cs s n m h e =
       each = λ i some. absurd (some (none-settled n m i));
     }
 
-pub start-level : (s : List ℕ) → Accepted s → LevelWithin s 1 []
-start-level s ok = omega (arith, opens-within s ok [], levels-enough)
+pub start-level : (limit : ℕ) (s : List ℕ) → Accepted s → LevelWithin limit s 1 []
+start-level limit s ok = omega (arith, opens-within (limitOf limit) s ok [], levels-enough (limitOf limit))
 
 -- No decision, and all the room that there is for pairs and a table.
-pub start-standing : (s : List ℕ) → Accepted s → (map : Classes) (pairs : List ℕ) → map .lots ≡ classes [] → length pairs ≡ pairsRoom + tableLength → Standing s map pairs 0 []
-start-standing s ok map pairs new len =
+pub start-standing : (limit : ℕ) (s : List ℕ) → Accepted s → (map : Classes) (pairs : List ℕ) → map .lots ≡ classes []
+    → length pairs ≡ pairsRoom (limitOf limit) + tableLength → Standing limit s map pairs 0 []
+start-standing limit s ok map pairs new len =
     record {
       represents = new-represents map pairs new;
       small = tt;
-      room = omega (arith, len, opens-within s ok [], pairs-enough);
+      room = omega (arith, len, opens-within (limitOf limit) s ok [], pairs-enough (limitOf limit));
       size = omega (arith, len);
     }
 
-module _ {s : List ℕ} {map : Classes} {pairs : List ℕ} {count : ℕ} {ds : Decisions} (st : Standing s map pairs count ds) where
-  -- The map and the pairs count the open "same" terms of the path.
-  pub counted : openByMap s (map .lots) pairs count ≡ allOpens ds (conditions s)
+module _ {limit : ℕ} {s : List ℕ} {map : Classes} {pairs : List ℕ} {count : ℕ} {ds : Decisions} (st : Standing limit s map pairs count ds) where
+  -- The map and the pairs count what is open under the path.
+  pub counted : openByMap limit s (map .lots) pairs count ≡ openLeft limit s ds
   unfolding openByMap
   counted =
-      ap (λ (shut : ℕ → ℕ → Bool). openInAll shut (conditions s))
+      ap (openBy (limitOf limit) (lotCount s) (conditions s))
       (fun-ext
       (λ a. fun-ext
       (λ b. ap₂ _||_ (ap₂ eqb (smallest-says (st .represents) a) (smallest-says (st .represents) b)) (marked-says (st .represents) a b))))
@@ -118,7 +158,7 @@ module _ {s : List ℕ} {map : Classes} {pairs : List ℕ} {count : ℕ} {ds : D
   entries-within lot h = omega (arith, smallest-says (st .represents) lot, least ds lot)
 
   -- Whatever is written after the pairs, the path stands so.
-  pub below-standing : (pairs′ : List ℕ) → length pairs′ ≡ length pairs → Untouched pairs pairs′ count → Standing s map pairs′ count ds
+  pub below-standing : (pairs′ : List ℕ) → length pairs′ ≡ length pairs → Untouched pairs pairs′ count → Standing limit s map pairs′ count ds
   below-standing pairs′ len untouched =
       record {
         represents = below-represents (st .represents) pairs′ untouched;
@@ -127,19 +167,21 @@ module _ {s : List ℕ} {map : Classes} {pairs : List ℕ} {count : ℕ} {ds : D
         size = omega (arith, st .size);
       }
 
-  module _ (ok : Accepted s) (a b : ℕ) (e : node ds (conditions s) ≡ split a b) where
+  module _ (ok : Accepted s) (a b : ℕ) (e : ruleOf limit s ds ≡ split a b) where
     pub split-small : (a ≤ mostLots) × (b ≤ mostLots)
-    split-small = split-all ds (conditions s) a b (split-at ds (conditions s) a b e) Small (conditions-small s ok)
+    split-small =
+        let pair = split-open (limitOf limit) (lotCount s) (conditions s) (conditions-in s ok) ds a b e .within in
+        omega (arith, pair .0 .high, pair .1 .high, sound s ok .header .lots)
 
-    same-falls : allOpens (same a b ∷ ds) (conditions s) < allOpens ds (conditions s)
-    same-falls = same-fewer ds (conditions s) a b (split-at ds (conditions s) a b e)
+    same-falls : openLeft limit s (same a b ∷ ds) < openLeft limit s ds
+    same-falls = under-branches (limitOf limit) (lotCount s) (conditions s) (conditions-in s ok) ds tt a b e .same-falls
 
-    apart-falls : allOpens (apart a b ∷ ds) (conditions s) < allOpens ds (conditions s)
-    apart-falls = apart-fewer ds (conditions s) a b (split-at ds (conditions s) a b e)
+    apart-falls : openLeft limit s (apart a b ∷ ds) < openLeft limit s ds
+    apart-falls = under-branches (limitOf limit) (lotCount s) (conditions s) (conditions-in s ok) ds tt a b e .apart-falls
 
     -- The same branch, by what `join` ensures;
     pub same-standing : (map′ : Classes) → map′ .lots ≡ merged (classOf (map .lots) a) (classOf (map .lots) b) (map .lots)
-        → Standing s map′ pairs count (same a b ∷ ds)
+        → Standing limit s map′ pairs count (same a b ∷ ds)
     same-standing map′ joined =
         record {
           represents = join-represents (st .represents) map′ a b joined;
@@ -148,19 +190,19 @@ module _ {s : List ℕ} {map : Classes} {pairs : List ℕ} {count : ℕ} {ds : D
           size = st .size;
         }
 
-    pub same-level : (level : ℕ) → LevelWithin s level ds → LevelWithin s (level + 1) (same a b ∷ ds)
+    pub same-level : (level : ℕ) → LevelWithin limit s level ds → LevelWithin limit s (level + 1) (same a b ∷ ds)
     same-level level h = omega (arith, h, same-falls)
 
-    pub apart-level : (level : ℕ) → LevelWithin s level ds → LevelWithin s level (apart a b ∷ ds)
+    pub apart-level : (level : ℕ) → LevelWithin limit s level ds → LevelWithin limit s level (apart a b ∷ ds)
     apart-level level h = omega (arith, h, apart-falls)
 
     -- a level has room,
-    pub level-room : (level : ℕ) → LevelWithin s level ds → level + 1 < 65536
+    pub level-room : (level : ℕ) → LevelWithin limit s level ds → level + 1 < 65536
     level-room level h = omega (arith, h, same-falls, level-fits)
 
     -- there is a number more,
     pub count-room : count + 1 < 4294967296
-    count-room = omega (arith, st .room, st .size, apart-falls, pairs-count)
+    count-room = omega (arith, st .room, st .size, apart-falls, pairs-count (limitOf limit))
 
     -- there is room for a pair more,
     pub pair-room : 2 * count + 2 ≤ length pairs
@@ -168,7 +210,7 @@ module _ {s : List ℕ} {map : Classes} {pairs : List ℕ} {count : ℕ} {ds : D
 
     -- and the apart branch, whatever the same branch wrote after the pairs, by what `set_apart` ensures.
     pub apart-standing : (pairs′ pairs″ : List ℕ) → length pairs′ ≡ length pairs → Untouched pairs pairs′ count → pairs″ ≡ withPair pairs′ count a b
-        → Standing s map pairs″ (count + 1) (apart a b ∷ ds)
+        → Standing limit s map pairs″ (count + 1) (apart a b ∷ ds)
     apart-standing pairs′ pairs″ len untouched set =
         rw set
         (record {
@@ -178,20 +220,20 @@ module _ {s : List ℕ} {map : Classes} {pairs : List ℕ} {count : ℕ} {ds : D
           size = simp length-set (omega (arith, st .size));
         })
 
--- Whatever is written after the pairs, the open "same" terms are as many.
-pub below-same : {s : List ℕ} {map : Classes} {pairs : List ℕ} {count : ℕ} {ds : Decisions} → Standing s map pairs count ds
-    → (pairs′ : List ℕ) → length pairs′ ≡ length pairs → Untouched pairs pairs′ count → openByMap s (map .lots) pairs′ count ≡ openByMap s (map .lots) pairs count
+-- Whatever is written after the pairs, as much is open.
+pub below-same : {limit : ℕ} {s : List ℕ} {map : Classes} {pairs : List ℕ} {count : ℕ} {ds : Decisions} → Standing limit s map pairs count ds
+    → (pairs′ : List ℕ) → length pairs′ ≡ length pairs → Untouched pairs pairs′ count → openByMap limit s (map .lots) pairs′ count ≡ openByMap limit s (map .lots) pairs count
 below-same st pairs′ len untouched = counted (below-standing st pairs′ len untouched) ∙ sym (counted st)
 
--- Open "same" terms are fewer in each branch.
-module _ {s : List ℕ} {map : Classes} {pairs : List ℕ} {count : ℕ} {ds : Decisions} (st : Standing s map pairs count ds)
-    (ok : Accepted s) (a b : ℕ) (e : node ds (conditions s) ≡ split a b) where
+-- Less is open in each branch.
+module _ {limit : ℕ} {s : List ℕ} {map : Classes} {pairs : List ℕ} {count : ℕ} {ds : Decisions} (st : Standing limit s map pairs count ds)
+    (ok : Accepted s) (a b : ℕ) (e : ruleOf limit s ds ≡ split a b) where
   pub same-less : (map′ : Classes) → map′ .lots ≡ merged (classOf (map .lots) a) (classOf (map .lots) b) (map .lots)
-      → openByMap s (map′ .lots) pairs count < openByMap s (map .lots) pairs count
+      → openByMap limit s (map′ .lots) pairs count < openByMap limit s (map .lots) pairs count
   same-less map′ joined = omega (arith, counted (same-standing st ok a b e map′ joined), counted st, same-falls st ok a b e)
 
   pub apart-less : (pairs′ pairs″ : List ℕ) → length pairs′ ≡ length pairs → Untouched pairs pairs′ count → pairs″ ≡ withPair pairs′ count a b
-      → openByMap s (map .lots) pairs″ (count + 1) < openByMap s (map .lots) pairs count
+      → openByMap limit s (map .lots) pairs″ (count + 1) < openByMap limit s (map .lots) pairs count
   apart-less pairs′ pairs″ len untouched set =
       omega (arith, counted (apart-standing st ok a b e pairs′ pairs″ len untouched set), counted st, apart-falls st ok a b e)
 

@@ -1,4 +1,5 @@
 pub mod Limits
 pub mod Answers
 pub mod Promises
+pub mod Limited
 pub mod Visited

@@ -6,13 +6,16 @@ use mathlib.Core.Path.{_≡_}
 use lib.Dec.{leb}
 use lib.ListN.{length}
 use lib.Seq.{sets}
-use Rattle.sheet.specs.Format.{mostLots}
+use Rattle.sheet.specs.Format.{lotCount}
 use Rattle.sheet.specs.Conditions.{conditions}
 use Rattle.buffers.specs.Lists.{All}
-use Rattle.equality.specs.Node.{Decisions, split, node}
-use Rattle.equality.specs.Search.{nodeRule, Tree, isMet, nodeCount, metDecisions, groupingBytes}
-use Rattle.equality.specs.Opens.{Small, allOpens}
+use Rattle.equality.specs.Node.{Decisions, Node, split}
+use Rattle.equality.specs.Search.{Tree, isMet, nodeCount, metDecisions, groupingBytes}
+use Rattle.equality.specs.Opens.{Small}
 use Rattle.equality.specs.Visits.{Visits}
+use Rattle.limit.specs.Rule.{nodeUnder}
+use Rattle.limit.specs.Search.{openUnder}
+use Rattle.limit.specs.Scan.{limitOf}
 use Rattle.classes.specs.declared.Classes.{Classes}
 use Rattle.classes.specs.Pairs.{Represents}
 use Rattle.marks.specs.Marks.{tableLength}
@@ -32,39 +35,46 @@ use Rattle.search.specs.declared.Visited.the-variants.{Met, Cannot, Full
 
 -- ---- what a visit asks
 
--- The sheet is accepted, with m conditions, and the grouping has no more bytes than a sheet can have lots.
+-- The sheet is accepted, with m conditions, and the grouping has a byte for each of its lots.
 pub record Searchable (s : List ℕ) (m : ℕ) (grouping : List ℕ) : Type 0 where
   pub sheet : HasConditions s m
-  pub lots : length grouping ≤ mostLots
+  pub lots : length grouping ≡ lotCount s
+
+-- The rule that the search follows, and what is open under decisions, by the number that the code has for the limit.
+abbrev pub ruleOf : ℕ → List ℕ → Decisions → Node
+ruleOf limit s = nodeUnder (limitOf limit) (lotCount s) (conditions s)
+
+abbrev pub openLeft : ℕ → List ℕ → Decisions → ℕ
+openLeft limit s ds = openUnder (limitOf limit) (lotCount s) (conditions s) ds
 
 -- The map and the first `count` pairs are those of the path `ds`, whose lots have entries in the map. The bytes have room for as many pairs more as there
--- are open "same" terms, and for a table behind them. There are no more bytes than the code has.
-pub record Standing (s : List ℕ) (map : Classes) (pairs : List ℕ) (count : ℕ) (ds : Decisions) : Type 0 where
+-- are open "same" terms, or with a limit undecided pairs of lots, and for a table behind them. There are no more bytes than the code has.
+pub record Standing (limit : ℕ) (s : List ℕ) (map : Classes) (pairs : List ℕ) (count : ℕ) (ds : Decisions) : Type 0 where
   pub represents : Represents map pairs count ds
   pub small : All Small ds
-  pub room : 2 * (count + allOpens ds (conditions s)) + tableLength ≤ length pairs
-  pub size : length pairs ≤ pairsRoom + tableLength
+  pub room : 2 * (count + openLeft limit s ds) + tableLength ≤ length pairs
+  pub size : length pairs ≤ pairsRoom (limitOf limit) + tableLength
 
--- The level of the path leaves room for one more for each open "same" term.
-abbrev pub LevelWithin : List ℕ → ℕ → Decisions → Type 0
-LevelWithin s level ds = level + allOpens ds (conditions s) ≤ mostLevel
+-- The level of the path leaves room for one more for each of these.
+abbrev pub LevelWithin : ℕ → List ℕ → ℕ → Decisions → Type 0
+LevelWithin limit s level ds = level + openLeft limit s ds ≤ mostLevel
 
 -- A visit may be made from a place: the settled levels are those of some path that stands so.
-pub record Visitable (s : List ℕ) (map : Classes) (from : Place) (count level : ℕ) (pairs noted : List ℕ) : Type 0 where
+pub record Visitable (limit : ℕ) (s : List ℕ) (map : Classes) (from : Place) (count level : ℕ) (pairs noted : List ℕ) : Type 0 where
   pub settled : Settled (map .lots) s noted level
   pub path : Decisions
-  pub standing : Standing s map pairs count path
-  pub resumes : Resumes s from path
-  pub levels : LevelWithin s level path
+  pub standing : Standing limit s map pairs count path
+  pub resumes : Resumes (limitOf limit) (lotCount s) s from path
+  pub levels : LevelWithin limit s level path
 
 -- The same of the branches of a split.
-pub record Splittable (s : List ℕ) (map : Classes) (on : Split) (count level : ℕ) (pairs noted : List ℕ) : Type 0 where
+pub record Splittable (limit : ℕ) (s : List ℕ) (map : Classes) (on : Split) (count level : ℕ) (pairs noted : List ℕ) : Type 0 where
   pub settled : Settled (map .lots) s noted level
   pub path : Decisions
-  pub standing : Standing s map pairs count path
-  pub splits : node path (conditions s) ≡ split (on .a .0) (on .b .0)
-  pub leaves : SplitLeaves s on path
-  pub levels : LevelWithin s level path
+  pub standing : Standing limit s map pairs count path
+  pub splits : ruleOf limit s path ≡ split (on .a .0) (on .b .0)
+  pub leaves : SplitLeaves (limitOf limit) (lotCount s) s on path
+  pub levels : LevelWithin limit s level path
 
 -- ---- what it does
 
@@ -90,15 +100,16 @@ pub record Explored (before : ℕ) (store store′ grouping grouping′ : List �
   pub grouped : grouping′ ≡ groupingEnd r t grouping
 
 -- So for every path that the map and the pairs represent, and from which a visit may go on: it explores the tree that the rule visits from there.
-abbrev pub VisitExplores : List ℕ → Classes → Place → ℕ → List ℕ → ℕ → List ℕ → List ℕ → List ℕ → List ℕ → Visited → Type 0
-VisitExplores s map from count pairs before store store′ grouping grouping′ r =
-    (ds : Decisions) (t : Tree) → Standing s map pairs count ds → Resumes s from ds → Visits (nodeRule (conditions s)) ds t → Explored before store store′ grouping grouping′ r t
+abbrev pub VisitExplores : ℕ → List ℕ → Classes → Place → ℕ → List ℕ → ℕ → List ℕ → List ℕ → List ℕ → List ℕ → Visited → Type 0
+VisitExplores limit s map from count pairs before store store′ grouping grouping′ r =
+    (ds : Decisions) (t : Tree) → Standing limit s map pairs count ds → Resumes (limitOf limit) (lotCount s) s from ds → Visits (ruleOf limit s) ds t
+    → Explored before store store′ grouping grouping′ r t
 
 -- The same of every path whose node is a split.
-abbrev pub SplitExplores : List ℕ → Classes → Split → ℕ → List ℕ → ℕ → List ℕ → List ℕ → List ℕ → List ℕ → Visited → Type 0
-SplitExplores s map on count pairs before store store′ grouping grouping′ r =
-    (ds : Decisions) (t : Tree) → Standing s map pairs count ds → node ds (conditions s) ≡ split (on .a .0) (on .b .0) → SplitLeaves s on ds
-    → Visits (nodeRule (conditions s)) ds t → Explored before store store′ grouping grouping′ r t
+abbrev pub SplitExplores : ℕ → List ℕ → Classes → Split → ℕ → List ℕ → ℕ → List ℕ → List ℕ → List ℕ → List ℕ → Visited → Type 0
+SplitExplores limit s map on count pairs before store store′ grouping grouping′ r =
+    (ds : Decisions) (t : Tree) → Standing limit s map pairs count ds → ruleOf limit s ds ≡ split (on .a .0) (on .b .0)
+    → SplitLeaves (limitOf limit) (lotCount s) s on ds → Visits (ruleOf limit s) ds t → Explored before store store′ grouping grouping′ r t
 
 -- A search of this result, of a sheet with n lots, ends so: its case, and the two buffers.
 pub record EndsAs (n : ℕ) (result : Result) (grouping grouping′ store store′ : List ℕ) (r : SearchAnswer) : Type 0 where

@@ -6,12 +6,18 @@ ghost use Rattle.sheet.specs.declared.Verdict.the-variants.{Passes};
 ghost use Rattle.sheet.specs.Format.{mostLots, lotCount};
 ghost use Rattle.sheet.specs.Conditions.{conditions};
 ghost use Rattle.equality.specs.Search.{searchTree};
+ghost use Rattle.limit.specs.Meaning.{upTo};
+ghost use Rattle.limit.specs.Scan.{limitOf};
+ghost use Rattle.marks.specs.Marks.{tableLength};
 ghost use Rattle.node.specs.Settled.{Later};
 ghost use Rattle.sheet.specs.Inner.{HasConditions};
 ghost use Rattle.store.specs.Records.{capacity};
 ghost use Rattle.outcome.specs.Outcome.{resultOf, searchOutcome};
+ghost use Rattle.outcome.specs.Limited.{treeOf};
+ghost use Rattle.search.specs.Limits.{pairsRoom};
 ghost use Rattle.search.specs.Answers.{searchAnswer};
 ghost use Rattle.search.specs.Promises.{searchCase, RefusedExactly, FullExactly, FullPlace, MetExactly, MetGrouping, MetZero, CannotExactly, CannotWhichever, CannotRefutes, CountBounded};
+ghost use Rattle.search.specs.Limited.{limitedCase, limitedOutcome, RefusedExactlyUnder, FullExactlyUnder, MetExactlyUnder, MetGroupingUnder, MetZeroUnder, CannotExactlyUnder, CannotWhicheverUnder, CannotRefutesUnder};
 ghost use Rattle.search.specs.Visited.{Searchable, Visitable, Splittable, Explored, VisitExplores, SplitExplores, EndsAs};
 ghost use Rattle.classes.specs.Maps.{ClassesWithin};
 ghost use Rattle.classes.specs.Pairs.{Untouched};
@@ -24,11 +30,21 @@ use sheet::Reading;
 use store::NodeNumber;
 use store::NodeRecord;
 
-// The bytes of the pairs that a path can set apart (`pairsRoom`): two for each split that it can have.
+// The bytes of the pairs that a path can set apart (`pairsRoom`), without a limit and with one: two for each split that it can have.
 const PAIRS_LENGTH: usize = 2048;
+
+const LIMITED_PAIRS_LENGTH: usize = 16512;
 
 // The bytes for them and, behind them, for the table of a node's marks.
 const MARKS_LENGTH: usize = PAIRS_LENGTH + marks::TABLE_LENGTH;
+
+const LIMITED_MARKS_LENGTH: usize = LIMITED_PAIRS_LENGTH + marks::TABLE_LENGTH;
+
+// The number of the check that a grouping is long enough.
+const SHORT_GROUPING: u32 = 8;
+
+// Where a limit is 0 there is none.
+const NO_LIMIT: u16 = 0;
 
 // The settled levels: one for each condition that a sheet can have.
 const LEVELS_LENGTH: usize = 256;
@@ -36,34 +52,37 @@ const LEVELS_LENGTH: usize = 256;
 // The level of the path with no decision. Each same branch is one level further, and 0 stands for a condition that is not known to be settled.
 const FIRST_LEVEL: u16 = 1;
 
-// How far a search has come: the sheet's conditions, the records written so far, and the level of the path.
+// How far a search has come: the sheet's conditions, the records written so far, the level of the path, and the limit.
 struct Stage {
     m: u16,
     before: u32,
     level: u16,
+    limit: u16,
 }
 
 impl Stage {
     // From a split into its same branch: a record more, and the next level.
     fn in_same(self) -> Stage
         requires { ⌜ (self .before + 1 < 4294967296) × (self .level + 1 < 65536) ⌝ }
-        ensures { λ r. ⌜ (r .m ≡ self .m) × (r .before ≡ self .before + 1) × (r .level ≡ self .level + 1) ⌝ }
+        ensures { λ r. ⌜ (r .m ≡ self .m) × (r .before ≡ self .before + 1) × (r .level ≡ self .level + 1) × (r .limit ≡ self .limit) ⌝ }
     {
         Stage {
             m: self.m,
             before: self.before + 1,
             level: self.level + 1,
+            limit: self.limit,
         }
     }
 
     // From a split into its apart branch, after so many records: the level stays.
     fn in_apart(self, before: u32) -> Stage
-        ensures { λ r. ⌜ (r .m ≡ self .m) × (r .before ≡ before) × (r .level ≡ self .level) ⌝ }
+        ensures { λ r. ⌜ (r .m ≡ self .m) × (r .before ≡ before) × (r .level ≡ self .level) × (r .limit ≡ self .limit) ⌝ }
     {
         Stage {
             m: self.m,
             before,
             level: self.level,
+            limit: self.limit,
         }
     }
 }
@@ -97,8 +116,8 @@ fn write_grouping(grouping: &mut [u8], map: Classes)
     }
 }
 
-// The node of a path, and all under it: its record is written, and a split's branches are visited. `count` is how many pairs the path sets apart, behind which a
-// node may mark its table; `levels` are the settled levels, of conditions that the path settles.
+// The node of a path, and all under it: its record is written, and a split's branches are visited. `count` is how many pairs the path sets apart, behind which
+// a node may mark its table; `levels` are the settled levels, of conditions that the path settles.
 fn visit(
     sheet: &[u8],
     map: Classes,
@@ -110,8 +129,8 @@ fn visit(
     store: &mut [u8],
     levels: &mut [u16],
 ) -> Visited
-    requires { ⌜ Searchable (now sheet) (at .m) (now grouping) × Visitable (now sheet) map from count (at .level) (now pairs) (now levels) ⌝ }
-    ensures visited { λ r. ⌜ VisitExplores (now (sheet .entry)) map from count (now (pairs .entry)) (at .before) (now (store .entry)) (now (store .exit)) (now (grouping .entry)) (now (grouping .exit)) r ⌝ }
+    requires { ⌜ Searchable (now sheet) (at .m) (now grouping) × Visitable (at .limit) (now sheet) map from count (at .level) (now pairs) (now levels) ⌝ }
+    ensures visited { λ r. ⌜ VisitExplores (at .limit) (now (sheet .entry)) map from count (now (pairs .entry)) (at .before) (now (store .entry)) (now (store .exit)) (now (grouping .entry)) (now (grouping .exit)) r ⌝ }
     ensures untouched { λ r. ⌜ Untouched (now (pairs .entry)) (now (pairs .exit)) count × Later (now (levels .entry)) (now (levels .exit)) (at .level) ⌝ }
 {
     let before = at.before;
@@ -119,7 +138,9 @@ fn visit(
         return Visited::Full;
     }
     let place = node::locate(sheet, at.m, map, from, levels, at.level);
-    let node = node::node_at(sheet, at.m, map, pairs, count, place);
+    let found = node::node_at(sheet, at.m, map, pairs, count, place);
+    let lots = grouping.len() as u16;
+    let node = node::limited(found, map, lots, at.limit, pairs, count, place);
     match node {
         Node::Met => {
             store::write(store, NodeNumber(before + 1), NodeRecord::Met);
@@ -130,13 +151,17 @@ fn visit(
             store::write(store, NodeNumber(before + 1), NodeRecord::Ground(c));
             Visited::Cannot(before + 1)
         }
+        Node::Clique => {
+            store::write(store, NodeNumber(before + 1), NodeRecord::Clique);
+            Visited::Cannot(before + 1)
+        }
         Node::Split(on) => branches(sheet, map, on, count, at, pairs, grouping, store, levels),
     }
 }
 
-// A split on two lots: its record, all under its same branch, in which its condition is settled, and, if nothing was met there, all under its apart branch,
-// which goes on in the same condition after the term of the split, with the settled levels as they were before. The store is seen to have room before the
-// split's next is set, since that has two bytes.
+// A split on two lots: its record, all under its same branch, in which its condition is settled, if it has one, and, if nothing was met there, all under its
+// apart branch, which goes on in the same condition after the term of the split, or after its pair of classes, with the settled levels as they were before. The
+// store is seen to have room before the split's next is set, since that has two bytes.
 fn branches(
     sheet: &[u8],
     map: Classes,
@@ -148,8 +173,8 @@ fn branches(
     store: &mut [u8],
     levels: &mut [u16],
 ) -> Visited
-    requires { ⌜ Searchable (now sheet) (at .m) (now grouping) × (at .before < capacity (now store)) × Splittable (now sheet) map on count (at .level) (now pairs) (now levels) ⌝ }
-    ensures visited { λ r. ⌜ SplitExplores (now (sheet .entry)) map on count (now (pairs .entry)) (at .before) (now (store .entry)) (now (store .exit)) (now (grouping .entry)) (now (grouping .exit)) r ⌝ }
+    requires { ⌜ Searchable (now sheet) (at .m) (now grouping) × (at .before < capacity (now store)) × Splittable (at .limit) (now sheet) map on count (at .level) (now pairs) (now levels) ⌝ }
+    ensures visited { λ r. ⌜ SplitExplores (at .limit) (now (sheet .entry)) map on count (now (pairs .entry)) (at .before) (now (store .entry)) (now (store .exit)) (now (grouping .entry)) (now (grouping .exit)) r ⌝ }
     ensures untouched { λ r. ⌜ Untouched (now (pairs .entry)) (now (pairs .exit)) count × Later (now (levels .entry)) (now (levels .exit)) (at .level) ⌝ }
 {
     let here = NodeNumber(at.before + 1);
@@ -177,12 +202,18 @@ fn branches(
     visit(sheet, map, from, count, at, pairs, grouping, store, levels)
 }
 
-// The search of an accepted sheet, from no decisions and no records on.
-fn start(sheet: &[u8], m: u16, grouping: &mut [u8], store: &mut [u8]) -> Visited
-    requires { ⌜ Searchable (now sheet) m (now grouping) ⌝ }
-    ensures { λ r. ⌜ Explored 0 (now (store .entry)) (now (store .exit)) (now (grouping .entry)) (now (grouping .exit)) r (searchTree (conditions (now (sheet .entry)))) ⌝ }
+// The search of an accepted sheet, from no decisions and no records on. The bytes for the pairs and the table are lent.
+fn start(
+    sheet: &[u8],
+    m: u16,
+    limit: u16,
+    pairs: &mut [u8],
+    grouping: &mut [u8],
+    store: &mut [u8],
+) -> Visited
+    requires { ⌜ Searchable (now sheet) m (now grouping) × (length (now pairs) ≡ pairsRoom (limitOf limit) + tableLength) ⌝ }
+    ensures { λ r. ⌜ Explored 0 (now (store .entry)) (now (store .exit)) (now (grouping .entry)) (now (grouping .exit)) r (treeOf (limitOf limit) (now (sheet .entry))) ⌝ }
 {
-    let mut pairs = [0u8; MARKS_LENGTH];
     let mut levels = [0u16; LEVELS_LENGTH];
     let room = m as usize;
     let map = Classes::new();
@@ -190,6 +221,7 @@ fn start(sheet: &[u8], m: u16, grouping: &mut [u8], store: &mut [u8]) -> Visited
         m,
         before: 0,
         level: FIRST_LEVEL,
+        limit,
     };
     visit(
         sheet,
@@ -197,7 +229,7 @@ fn start(sheet: &[u8], m: u16, grouping: &mut [u8], store: &mut [u8]) -> Visited
         Place::Scan,
         0,
         at,
-        &mut pairs,
+        pairs,
         grouping,
         store,
         &mut levels[..room],
@@ -210,11 +242,13 @@ fn search_accepted(
     sheet: &[u8],
     n: u16,
     m: u16,
+    limit: u16,
+    pairs: &mut [u8],
     grouping: &mut [u8],
     store: &mut [u8],
 ) -> SearchAnswer
-    requires { ⌜ HasConditions (now sheet) m × (n ≡ lotCount (now sheet)) × (n ≤ length (now grouping)) ⌝ }
-    ensures { λ r. ⌜ EndsAs n (resultOf Passes (capacity (now (store .entry))) (searchTree (conditions (now (sheet .entry)))))
+    requires { ⌜ HasConditions (now sheet) m × (n ≡ lotCount (now sheet)) × (n ≤ length (now grouping)) × (length (now pairs) ≡ pairsRoom (limitOf limit) + tableLength) ⌝ }
+    ensures { λ r. ⌜ EndsAs n (resultOf Passes (capacity (now (store .entry))) (treeOf (limitOf limit) (now (sheet .entry))))
         (now (grouping .entry)) (now (grouping .exit)) (now (store .entry)) (now (store .exit)) r ⌝ }
 {
     let capacity = store::capacity_of(store);
@@ -222,6 +256,8 @@ fn search_accepted(
     let visited = start(
         sheet,
         m,
+        limit,
+        pairs,
         &mut grouping[..lots],
         &mut store[..store::RECORD_LENGTH * capacity],
     );
@@ -235,6 +271,39 @@ fn search_accepted(
             }
         }
     }
+}
+
+// The same without a limit, with the bytes that its paths can need.
+fn without_limit(
+    sheet: &[u8],
+    n: u16,
+    m: u16,
+    grouping: &mut [u8],
+    store: &mut [u8],
+) -> SearchAnswer
+    requires { ⌜ HasConditions (now sheet) m × (n ≡ lotCount (now sheet)) × (n ≤ length (now grouping)) ⌝ }
+    ensures { λ r. ⌜ EndsAs n (resultOf Passes (capacity (now (store .entry))) (searchTree (conditions (now (sheet .entry)))))
+        (now (grouping .entry)) (now (grouping .exit)) (now (store .entry)) (now (store .exit)) r ⌝ }
+{
+    let mut pairs = [0u8; MARKS_LENGTH];
+    search_accepted(sheet, n, m, NO_LIMIT, &mut pairs, grouping, store)
+}
+
+// The same with one.
+fn with_limit(
+    sheet: &[u8],
+    n: u16,
+    m: u16,
+    limit: u16,
+    grouping: &mut [u8],
+    store: &mut [u8],
+) -> SearchAnswer
+    requires { ⌜ HasConditions (now sheet) m × (n ≡ lotCount (now sheet)) × (n ≤ length (now grouping)) × (1 ≤ limit) ⌝ }
+    ensures { λ r. ⌜ EndsAs n (resultOf Passes (capacity (now (store .entry))) (treeOf (upTo limit) (now (sheet .entry))))
+        (now (grouping .entry)) (now (grouping .exit)) (now (store .entry)) (now (store .exit)) r ⌝ }
+{
+    let mut pairs = [0u8; LIMITED_MARKS_LENGTH];
+    search_accepted(sheet, n, m, limit, &mut pairs, grouping, store)
 }
 
 // The search, for any bytes and any buffers. The answer, every byte of the grouping and every byte of the store follow from the three (`case`, `answer`,
@@ -265,11 +334,58 @@ pub fn search(sheet: &[u8], grouping: &mut [u8], store: &mut [u8]) -> SearchAnsw
         } => {
             if grouping.len() < (lots as usize) {
                 return SearchAnswer::Refused {
-                    check: 8,
+                    check: SHORT_GROUPING,
                     place: lots as u32,
                 };
             }
-            search_accepted(sheet, lots, conditions, grouping, store)
+            without_limit(sheet, lots, conditions, grouping, store)
+        }
+    }
+}
+
+// The search under a limit on the classes, for any bytes, any limit and any buffers: as the search without one, of the assignments that have at most so many
+// different numbers on lots 0 to n. All 32 bits of the limit count.
+pub fn search_limited(
+    sheet: &[u8],
+    limit: u32,
+    grouping: &mut [u8],
+    store: &mut [u8],
+) -> SearchAnswer
+    ensures case { λ r. ⌜ r ≡ limitedCase (now (sheet .entry)) limit (now (grouping .entry)) (now (store .entry)) ⌝ }
+    ensures answer { λ r. ⌜ searchAnswer r ≡ limitedOutcome (now (sheet .entry)) limit (now (grouping .entry)) (now (store .entry)) .answer ⌝ }
+    ensures grouping { λ r. ⌜ now (grouping .exit) ≡ limitedOutcome (now (sheet .entry)) limit (now (grouping .entry)) (now (store .entry)) .grouping ⌝ }
+    ensures store { λ r. ⌜ now (store .exit) ≡ limitedOutcome (now (sheet .entry)) limit (now (grouping .entry)) (now (store .entry)) .store ⌝ }
+    ensures refused { λ r. ⌜ RefusedExactlyUnder (upTo limit) (searchAnswer r) (now (sheet .entry)) (now (grouping .entry)) (now (store .entry)) ⌝ }
+    ensures full { λ r. ⌜ FullExactlyUnder (upTo limit) (searchAnswer r) (now (sheet .entry)) (now (grouping .entry)) (now (store .entry)) ⌝ }
+    ensures capacity { λ r. ⌜ FullPlace (searchAnswer r) (now (store .entry)) ⌝ }
+    ensures met { λ r. ⌜ MetExactlyUnder (upTo limit) (searchAnswer r) (now (sheet .entry)) ⌝ }
+    ensures meets { λ r. ⌜ MetGroupingUnder (upTo limit) (searchAnswer r) (now (sheet .entry)) (now (grouping .exit)) ⌝ }
+    ensures zero { λ r. ⌜ MetZeroUnder (upTo limit) (searchAnswer r) (now (sheet .entry)) (now (grouping .exit)) ⌝ }
+    ensures cannot { λ r. ⌜ CannotExactlyUnder (upTo limit) (searchAnswer r) (now (sheet .entry)) ⌝ }
+    ensures whichever { λ r. ⌜ CannotWhicheverUnder (upTo limit) (searchAnswer r) (now (sheet .entry)) ⌝ }
+    ensures refutes { λ r. ⌜ CannotRefutesUnder (upTo limit) (searchAnswer r) (now (sheet .entry)) (now (store .exit)) ⌝ }
+{
+    let reading = sheet::read(sheet);
+    match reading {
+        Reading::Refused { check, place } => SearchAnswer::Refused { check, place },
+        Reading::Accepted {
+            lots,
+            conditions,
+            records: _,
+        } => {
+            if clique::ill_limited(limit) {
+                return SearchAnswer::Refused {
+                    check: 20,
+                    place: limit,
+                };
+            }
+            if grouping.len() < (lots as usize) {
+                return SearchAnswer::Refused {
+                    check: SHORT_GROUPING,
+                    place: lots as u32,
+                };
+            }
+            with_limit(sheet, lots, conditions, limit as u16, grouping, store)
         }
     }
 }

@@ -19,6 +19,9 @@ enum-known-from c = search needs
 enum-told-2 : tie.Need-enum-told-2
 enum-told-2 c = search needs
 
+enum-known-from-2 : tie.Need-enum-known-from-2
+enum-known-from-2 c = search needs
+
 same-length : tie.Need-same-length
 same-length c = search needs
 
@@ -26,7 +29,7 @@ same-length c = search needs
 returns : tie.Need-returns
 returns c =
     let scan = c .before .before .scan in
-    ((λ ds says w. scan .ensures .0 ds says), scan .ensures .1)
+    ((λ limit lots ds says w. scan .ensures .0 limit lots ds says), scan .ensures .1)
 
 -- within a condition;
 returns-2 : tie.Need-returns-2
@@ -34,17 +37,27 @@ returns-2 c =
     let start = c .before .before .before .before .before in
     let s = start .args .sheet .now in
     let from = c .before .from .given .1 in (
-      (λ ds says w. subst (λ (p : Place). Resumes s p ds) from w),
+      (λ limit lots ds says w. subst (λ (p : Place). Resumes limit lots s p ds) from w),
       (subst (PlaceWithin s) from (start .pre .1), (start .pre .2, later-none _ _)),
     )
 
--- nowhere.
+-- nowhere;
 returns-3 : tie.Need-returns-3
 returns-3 c =
     let start = c .before .before .before .before in
     let s = start .args .sheet .now in (
-      (λ ds says w. subst (λ (p : Place). Resumes s p ds) (c .enum-told2 .given .1) w),
+      (λ limit lots ds says w. subst (λ (p : Place). Resumes limit lots s p ds) (c .enum-told2 .given .1) w),
       (tt, (start .pre .2, later-none _ _)),
+    )
+
+-- after a pair.
+returns-4 : tie.Need-returns-4
+returns-4 c =
+    let start = c .before .before .before .before .before in
+    let s = start .args .sheet .now in
+    let from = c .before .from2 .given .1 in (
+      (λ limit lots ds says w. subst (λ (p : Place). Resumes limit lots s p ds) from w),
+      (subst (PlaceWithin s) from (start .pre .1), (start .pre .2, later-none _ _)),
     )
 
 pub locate-spec : {M : Type 1} → statement M
@@ -55,7 +68,9 @@ locate-spec =
     scan-requires
     enum-known-from
     enum-told-2
+    enum-known-from-2
     same-length
     returns
     returns-2
-    returns-3)
+    returns-3
+    returns-4)

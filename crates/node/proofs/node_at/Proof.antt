@@ -1,12 +1,21 @@
--- `node::node_at`: the terms from the place on decide what the node is; nowhere, it is met.
+-- `node::node_at`: the terms from the place on decide what the node is; nowhere, and after a pair of classes, it is met.
 use borrow.Author.Needs.{needs}
-use mathlib.Core.Path.{subst}
+use Prim.Native.Nat.{ℕ}
+use mathlib.Core.List.{List}
+use mathlib.Core.Path.{_≡_, subst}
+use Rattle.equality.specs.Node.{Decisions}
+use Rattle.limit.specs.Meaning.{Limit}
 use Rattle.marks.proofs.Bytes.{outside-none}
 use Rattle.node.specs.declared.Place.{Place}
 use Rattle.node.specs.Place.{Stands, PlaceWithin}
+use Rattle.node.proofs.Leaving.{pair-none}
 use Rattle.node.proofs.Resuming.{none-met}
 use Rattle.node.proofs.node_at.Statement.{statement}
 use Rattle.node.proofs.node_at.Tie as tie
+
+-- A node that stands at a place that is known stands there.
+stands : (limit : Limit) (n : ℕ) (s : List ℕ) (ds : Decisions) {p q : Place} → p ≡ q → Stands limit n s p ds → Stands limit n s q ds
+stands limit n s ds e w = subst (λ (p : Place). Stands limit n s p ds) e w
 
 enum-known-place : tie.Need-enum-known-place
 enum-known-place c = search needs
@@ -23,6 +32,9 @@ enum-told c = search needs
 enum-told-2 : tie.Need-enum-told-2
 enum-told-2 c = search needs
 
+enum-told-3 : tie.Need-enum-told-3
+enum-told-3 c = search needs
+
 same-length : tie.Need-same-length
 same-length c = search needs
 
@@ -33,24 +45,32 @@ returns c =
     let known = opened .before .before .before in
     let s = known .before .before .before .before .args .sheet .now in
     let at = known .place .given .1 in (
-      (λ ds rep w. opened .first-open .ensures .0 ds rep (subst (λ (p : Place). Stands s p ds) at w)),
-      ((λ ds rep w. opened .first-open .ensures .1 .0 ds rep (subst (λ (p : Place). Stands s p ds) at w)), opened .first-open .ensures .1 .1),
+      (λ limit lots ds rep w. opened .first-open .ensures .0 ds rep (stands limit lots s ds at w)),
+      ((λ limit lots ds rep w. opened .first-open .ensures .1 .0 ds rep (stands limit lots s ds at w)), opened .first-open .ensures .1 .1),
     )
 
 -- nowhere;
 returns-2 : tie.Need-returns-2
 returns-2 c =
     let s = c .before .before .before .before .args .sheet .now in (
-      (λ ds rep w. none-met ds s (subst (λ (p : Place). Stands s p ds) (c .enum-told .given .1) w)),
-      ((λ ds rep w. tt), outside-none _ _),
+      (λ limit lots ds rep w. none-met ds s (stands limit lots s ds (c .enum-told .given .1) w)),
+      ((λ limit lots ds rep w. tt), outside-none _ _),
     )
 
--- and no node stands at a place that is not known.
+-- after a pair;
 returns-3 : tie.Need-returns-3
 returns-3 c =
     let s = c .before .before .before .before .args .sheet .now in (
-      (λ ds rep w. absurd (subst (λ (p : Place). Stands s p ds) (c .enum-told2 .given .1) w)),
-      ((λ ds rep w. tt), outside-none _ _),
+      (λ limit lots ds rep w. none-met ds s (pair-none limit lots s _ _ ds (stands limit lots s ds (c .enum-told2 .given .1) w))),
+      ((λ limit lots ds rep w. tt), outside-none _ _),
+    )
+
+-- and no node stands at a place that is not known.
+returns-4 : tie.Need-returns-4
+returns-4 c =
+    let s = c .before .before .before .before .args .sheet .now in (
+      (λ limit lots ds rep w. absurd (stands limit lots s ds (c .enum-told3 .given .1) w)),
+      ((λ limit lots ds rep w. tt), outside-none _ _),
     )
 
 pub node-at-spec : {M : Type 1} → statement M
@@ -61,7 +81,9 @@ node-at-spec =
     first-open-requires
     enum-told
     enum-told-2
+    enum-told-3
     same-length
     returns
     returns-2
-    returns-3)
+    returns-3
+    returns-4)

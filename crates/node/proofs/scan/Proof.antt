@@ -389,7 +389,7 @@ returns : tie.Need-returns Inv-run μ-run Inv-terms μ-terms Inv-conditions μ-c
 returns c =
     let start = c .before .before .before .before .before in
     let inv = c .before .conditions .inv in (
-      (λ ds says.
+      (λ limit lots ds says.
           sym
           (taken-by-map (start .args .map .lots) (conditions (start .args .sheet .now))
           (none-found (taken-goes (classOf (start .args .map .lots))) (inv .0) (omega (arith, c .if1 .taken, start .pre .0 .counted))) ds says)),
@@ -447,7 +447,7 @@ returns-2 : tie.Need-returns-2 Inv-run μ-run Inv-terms μ-terms Inv-conditions 
 returns-2 c =
     let inv = turn-of (over (over-of c)) .before .conditions .inv in
     let none = over-of c .before .before .terms .inv .1 in
-    (resumes-within c, (head-within (over (over-of c)), (rw none (inv .1), rw none (inv .2))))
+    ((λ limit lots. resumes-within c), (head-within (over (over-of c)), (rw none (inv .1), rw none (inv .2))))
 
 pub scan-spec : {M : Type 1} → statement M
 scan-spec =

@@ -1,40 +1,46 @@
 -- `search::visit` and `search::branches`, which call each other: whatever path the map and the pairs represent, the visit writes the records of the tree that
--- the rule visits from there, as far as the store has room. The measure is the open "same" terms, counted by the map and the pairs: a split closes one in each
--- of its branches. The settled levels are of the levels up to the path's: a visit writes only its level and later ones, which are forgotten before the apart
--- branch.
+-- the rule visits from there, as far as the store has room. The measure is what is open, the "same" terms or with a limit the pairs of lots, counted by the map
+-- and the pairs: a split closes one in each of its branches. The settled levels are of the levels up to the path's: a visit writes only its level and later
+-- ones, which are forgotten before the apart branch.
 use borrow.Author.Needs.{needs}
-use Prim.Native.Nat.{ℕ, _+_, _*_, _-_, _<_}
+use Prim.Native.Nat.{ℕ, _+_, _*_, _-_, _≤_, _<_}
 use mathlib.Core.List.{List, _∷_}
 use mathlib.Core.Logic.{_⊎_, ⊎-elim}
 use mathlib.Core.Path.{_≡_, refl, sym, ap, subst, _∙_}
 use native.Mathlib.Omega.{arith}
+use mathlib.Core.Bool.{cond}
+use lib.Dec.{eqb}
 use denote.Enum.Declared.{tagOf}
 use lib.ListN.{length, set, take, drop}
 use lib.Seq.{sets}
 use Rattle.sheet.specs.Checks.{Accepted}
+use Rattle.sheet.specs.Format.{mostLots, lotCount}
 use Rattle.sheet.specs.Conditions.{same, apart, conditions}
-use Rattle.equality.specs.Node.{Decisions, split, node}
-use Rattle.equality.specs.Search.{nodeRule, Tree, groupingBytes}
+use Rattle.sheet.proofs.Accepted.{sound}
+use Rattle.equality.specs.Node.{Decisions, split}
+use Rattle.equality.specs.Search.{Tree, groupingBytes}
 use Rattle.equality.specs.Visits.{Visits}
-use Rattle.equality.proofs.Visits.{met-tree, ground-tree, split-tree}
-use Rattle.store.specs.Records.{recordLength, splitRecord, groundRecord, metRecord, encode, capacity}
-use Rattle.classes.specs.Pairs.{Untouched}
+use Rattle.equality.proofs.Visits.{met-tree, ground-tree, clique-tree, split-tree}
+use Rattle.limit.specs.Rule.{nodeUnder}
+use Rattle.limit.specs.Scan.{limitOf}
+use Rattle.store.specs.Records.{recordLength, splitRecord, groundRecord, metRecord, cliqueRecord, encode, capacity}
+use Rattle.classes.specs.Pairs.{Represents, Untouched}
 use Rattle.marks.proofs.Marks.{outside-front}
 use Rattle.node.specs.declared.Node as declared
 use Rattle.node.specs.declared.Place.{Place}
 use Rattle.node.specs.declared.Place.the-variants.{Scan}
-use Rattle.node.specs.Place.{nodeAs, Resumes, SplitLeaves, Leaves}
+use Rattle.node.specs.Place.{nodeAs, Resumes, Stands, SplitLeaves, Leaves}
 use Rattle.node.specs.Settled.{Later}
 use Rattle.node.proofs.Settling.{later-none, later-through, later-above, restored-settled, restored-later}
 use Rattle.outcome.proofs.Fitting.{node-count}
 use Rattle.search.specs.declared.Visited.{Visited}
 use Rattle.search.specs.declared.Visited.the-variants.{Cannot}
-use Rattle.search.specs.Visited.{Searchable, Standing, Visitable, Splittable, Explored}
+use Rattle.search.specs.Visited.{Searchable, ruleOf, Standing, Visitable, Splittable, Explored, VisitExplores}
 use Rattle.search.proofs.Visited as ends
-use Rattle.search.proofs.Exploring.{none-explored, met-explored, ground-explored}
+use Rattle.search.proofs.Exploring.{none-explored, met-explored, ground-explored, clique-explored}
 use Rattle.search.proofs.Splitting.{split-ended, split-over, split-apart}
 use Rattle.search.proofs.Room.{has-place, number-fits}
-use Rattle.search.proofs.Standing.{openByMap, place-within, split-number, under-settled, under-later, same-level, apart-level, level-room, count-room, markable, entries-within, split-small, same-standing, same-less, pair-room, apart-standing, apart-less, below-standing, below-same, untouched-through}
+use Rattle.search.proofs.Standing.{openByMap, notedBy, place-within, split-number, under-settled, under-later, same-level, apart-level, level-room, count-room, markable, entries-within, split-small, same-standing, same-less, pair-room, apart-standing, apart-less, below-standing, below-same, untouched-through}
 use borrow.Fn.Kinds.{In}
 use borrow.Fn.PlainCycle.{Measures, is, falls, and}
 use Rattle.search.proofs.branches.Reads as branches
@@ -47,6 +53,7 @@ use Rattle.classes.proofs.Classes.join.Reads as join-reads
 use Rattle.classes.proofs.set_apart.Reads as set-apart-reads
 use Rattle.node.proofs.clear_above.Reads as clear-above-reads
 use Rattle.node.proofs.locate.Reads as locate-reads
+use Rattle.node.proofs.limited.Reads as limited-reads
 use Rattle.node.proofs.node_at.Reads as node-at-reads
 use Rattle.node.proofs.Split.apart_place.Reads as apart-place-reads
 use Rattle.node.proofs.settle.Reads as settle-reads
@@ -60,10 +67,10 @@ use Rattle.search.proofs.+branches+visit.{statement}
 use Rattle.search.proofs.+branches+visit.Tie.{close}
 
 abbrev μ-branches : Measures 5 branches-kinds.ps ℕ
-μ-branches κs a = 2 * openByMap (a .0 .now) (a .1 .0 .lots) (a .1 .1 .1 .1 .1 .0 .now) (a .1 .1 .1 .0)
+μ-branches κs a = 2 * openByMap (a .1 .1 .1 .1 .0 .limit) (a .0 .now) (a .1 .0 .lots) (a .1 .1 .1 .1 .1 .0 .now) (a .1 .1 .1 .0)
 
 abbrev μ-visit : Measures 5 visit-kinds.ps ℕ
-μ-visit κs a = 2 * openByMap (a .0 .now) (a .1 .0 .lots) (a .1 .1 .1 .1 .1 .0 .now) (a .1 .1 .1 .0) + 1
+μ-visit κs a = 2 * openByMap (a .1 .1 .1 .1 .0 .limit) (a .0 .now) (a .1 .0 .lots) (a .1 .1 .1 .1 .1 .0 .now) (a .1 .1 .1 .0) + 1
 
 abbrev branches-at : ℕ → In 5 branches-kinds.ps
 branches-at t = and 5 branches-kinds.ps (is 5 branches-kinds.ps μ-branches t) branches.Pre
@@ -112,6 +119,8 @@ visit-claims t = (
   locate-reads.Learnt,
   node-at-reads.Asked,
   node-at-reads.Learnt,
+  limited-reads.Asked,
+  limited-reads.Learnt,
   write-reads.Asked,
   write-reads.Learnt,
   write-grouping-reads.Asked,
@@ -222,7 +231,7 @@ module _ (t : ℕ) where
   abbrev accepted : (c : Begun) → Accepted (bytes c)
   accepted c = c .pre .1 .0 .sheet .accepted
 
-  abbrev able : (c : Begun) → Splittable (bytes c) (c .args .map) (c .args .on) (c .args .count) (c .args .at .level) (c .args .pairs .now) (c .args .levels .now)
+  abbrev able : (c : Begun) → Splittable (c .args .at .limit) (bytes c) (c .args .map) (c .args .on) (c .args .count) (c .args .at .level) (c .args .pairs .now) (c .args .levels .now)
   able c = c .pre .1 .2
 
   abbrev lot-a : Begun → ℕ
@@ -254,7 +263,7 @@ module _ (t : ℕ) where
 
   -- Any path that the map and the pairs represent, whose node is the split.
   abbrev Splits : Begun → Decisions → Type 0
-  Splits c ds = Standing (bytes c) (c .args .map) (c .args .pairs .now) (c .args .count) ds × (node ds (conditions (bytes c)) ≡ split (lot-a c) (lot-b c))
+  Splits c ds = Standing (c .args .at .limit) (bytes c) (c .args .map) (c .args .pairs .now) (c .args .count) ds × (ruleOf (c .args .at .limit) (bytes c) ds ≡ split (lot-a c) (lot-b c))
 
   -- The split's record is written,
   branches-written : (c : Written)
@@ -265,42 +274,51 @@ module _ (t : ℕ) where
       c .write .ensures ∙ ap (λ (k : ℕ). sets (start .args .store .now) (recordLength * k) (encode (splitRecord (lot-a start) (lot-b start) 0))) place
 
   -- the branch is visited,
-  branches-told : (c : Same) (ds : Decisions) → Splits (same-begun c) ds → (tree : Tree) → Visits (nodeRule (conditions (bytes (same-begun c)))) (same (lot-a (same-begun c)) (lot-b (same-begun c)) ∷ ds) tree
+  branches-told : (c : Same) (ds : Decisions) → Splits (same-begun c) ds → (tree : Tree) → Visits (ruleOf (same-begun c .args .at .limit) (bytes (same-begun c))) (same (lot-a (same-begun c)) (lot-b (same-begun c)) ∷ ds) tree
       → Explored (same-begun c .args .at .before + 1) (written (noted c) .write .last .0) (store₂ c) (same-begun c .args .grouping .now) (grouping₂ c) (c .visit .result) tree
   branches-told c ds at tree v =
       let start = same-begun c in
       let join = joined (noted c) .join in
+      let told =
+      subst (λ (l : ℕ). VisitExplores l (bytes start) (join .result) Scan (start .args .count) (start .args .pairs .now) (stepped (noted c) .in-same .result .before)
+      (written (noted c) .write .last .0) (store₂ c) (start .args .grouping .now) (grouping₂ c) (c .visit .result))
+      (stepped (noted c) .in-same .ensures .3) (c .visit .ensures .0) in
       subst (λ (k : ℕ). Explored k (written (noted c) .write .last .0) (store₂ c) (start .args .grouping .now) (grouping₂ c) (c .visit .result) tree) (stepped (noted c) .in-same .ensures .1)
-      (c .visit .ensures .0 _ tree (same-standing (at .0) (accepted start) _ _ (at .1) (join .result) (join .ensures .0)) tt v)
+      (told _ tree (same-standing (at .0) (accepted start) _ _ (at .1) (join .result) (join .ensures .0)) tt v)
 
   -- for which the condition is settled,
-  noted-level : (c : Noted) → c .settle .last .0 ≡ set (begun c .args .levels .now) (begun c .args .on .condition .0 - 1) (begun c .args .at .level + 1)
-  noted-level c = c .settle .ensures ∙ ap (λ (k : ℕ). set (begun c .args .levels .now) (begun c .args .on .condition .0 - 1) k) (stepped c .in-same .ensures .2)
+  noted-level : (c : Noted) → c .settle .last .0 ≡ notedBy (begun c .args .on) (begun c .args .levels .now) (begun c .args .at .level) (eqb (begun c .args .on .condition .0) 0)
+  noted-level c =
+      let start = begun c in
+      c .settle .ensures
+      ∙ ap (λ (k : ℕ). cond (eqb (start .args .on .condition .0) 0) (start .args .levels .now) (set (start .args .levels .now) (start .args .on .condition .0 - 1) k))
+      (stepped c .in-same .ensures .2)
 
   -- and it wrote later levels only.
   branches-over : (c : Same) → Later (same-begun c .args .levels .now) (levels₂ c) (same-begun c .args .at .level + 1)
   branches-over c =
       let start = same-begun c in
       let path = able start in
-      under-later (bytes start) (start .args .map .lots) (start .args .levels .now) (start .args .on .condition .0) (lot-a start) (lot-b start) (start .args .on .after .0) (start .args .at .level) _
-      (path .standing .represents .lots) (path .settled) (path .splits) (path .leaves) (noted c .settle .last .0) (levels₂ c) (noted-level (noted c))
+      under-later (limitOf (start .args .at .limit)) (lotCount (bytes start)) (bytes start) (start .args .on) (path .path) (start .args .levels .now) (start .args .at .level)
+      (start .args .map .lots) (path .standing .represents .lots) (path .settled) (path .splits) (path .leaves) (noted c .settle .last .0) (levels₂ c) (noted-level (noted c))
       (subst (λ (k : ℕ). Later (noted c .settle .last .0) (levels₂ c) k) (stepped (noted c) .in-same .ensures .2) (c .visit .ensures .1 .1))
 
   -- ---- branches: what is known once the pair is set apart
 
   branches-apart : (c : Apart) (ds : Decisions) → Splits (same-begun (apart-same c)) ds
-      → Standing (bytes (same-begun (apart-same c))) (same-begun (apart-same c) .args .map) (c .set-apart .last .0) (same-begun (apart-same c) .args .count + 1)
+      → Standing (same-begun (apart-same c) .args .at .limit) (bytes (same-begun (apart-same c))) (same-begun (apart-same c) .args .map) (c .set-apart .last .0) (same-begun (apart-same c) .args .count + 1)
       (apart (lot-a (same-begun (apart-same c))) (lot-b (same-begun (apart-same c))) ∷ ds)
   branches-apart c ds at =
       let under = apart-same c in
       apart-standing (at .0) (accepted (same-begun under)) _ _ (at .1) (pairs₂ under) (c .set-apart .last .0) (pairs-sized under) (under .visit .ensures .1 .0) (c .set-apart .ensures)
 
   -- and the apart branch goes on where the split says.
-  branches-resumes : (c : Turned) (ds : Decisions) → SplitLeaves (bytes (turned-begun c)) (turned-begun c .args .on) ds
-      → Resumes (bytes (turned-begun c)) (c .apart-place .result) (apart (lot-a (turned-begun c)) (lot-b (turned-begun c)) ∷ ds)
+  branches-resumes : (c : Turned) (ds : Decisions)
+      → SplitLeaves (limitOf (turned-begun c .args .at .limit)) (lotCount (bytes (turned-begun c))) (bytes (turned-begun c)) (turned-begun c .args .on) ds
+      → Resumes (limitOf (turned-begun c .args .at .limit)) (lotCount (bytes (turned-begun c))) (bytes (turned-begun c)) (c .apart-place .result) (apart (lot-a (turned-begun c)) (lot-b (turned-begun c)) ∷ ds)
   branches-resumes c ds leaves =
       let start = turned-begun c in
-      subst (λ (p : Place). Resumes (bytes start) p (apart (lot-a start) (lot-b start) ∷ ds)) (sym (c .apart-place .ensures)) leaves
+      subst (λ (p : Place). Resumes (limitOf (start .args .at .limit)) (lotCount (bytes start)) (bytes start) p (apart (lot-a start) (lot-b start) ∷ ds)) (sym (c .apart-place .ensures)) leaves
 
   -- ---- branches: its needs
 
@@ -323,8 +341,8 @@ module _ (t : ℕ) where
   branches-settle-requires : branches-lts.Need-settle-requires (branches-claims t) (branches-at t) branches.Post
   branches-settle-requires c κs =
       let start = written-begun (c .before .before .before .before .before .before) in
-      let number = split-number (bytes start) (start .args .on .condition .0) (lot-a start) (lot-b start) (start .args .on .after .0) _ (able start .leaves) in
-      (number .0, omega (arith, number .1, able start .settled .sized))
+      let number = split-number (limitOf (start .args .at .limit)) (lotCount (bytes start)) (bytes start) (start .args .on) _ (able start .leaves) in
+      omega (arith, number, able start .settled .sized)
 
   branches-visit-requires : branches-lts.Need-visit-requires (branches-claims t) (branches-at t) branches.Post
   branches-visit-requires c κs =
@@ -334,19 +352,25 @@ module _ (t : ℕ) where
       let path = able start in
       let ok = accepted start in
       let step = stepped d .in-same .ensures in (
-        omega (arith, start .pre .0, same-less (path .standing) ok _ _ (path .splits) (join .result) (join .ensures .0)),
+        omega (
+          arith,
+          start .pre .0,
+          ap (λ (l : ℕ). openByMap l (bytes start) (join .result .lots) (start .args .pairs .now) (start .args .count)) (step .3),
+          same-less (path .standing) ok _ _ (path .splits) (join .result) (join .ensures .0),
+        ),
         (
           subst (λ (m : ℕ). Searchable (bytes start) m (start .args .grouping .now)) (sym (step .0)) (start .pre .1 .0),
-          subst (λ (k : ℕ). Visitable (bytes start) (join .result) Scan (start .args .count) k (start .args .pairs .now) (d .settle .last .0)) (sym (step .2))
+          subst (λ (l : ℕ). Visitable l (bytes start) (join .result) Scan (start .args .count) (stepped d .in-same .result .level) (start .args .pairs .now) (d .settle .last .0)) (sym (step .3))
+              (subst (λ (k : ℕ). Visitable (start .args .at .limit) (bytes start) (join .result) Scan (start .args .count) k (start .args .pairs .now) (d .settle .last .0)) (sym (step .2))
               (record {
                 settled =
-                    under-settled (bytes start) (start .args .map .lots) (start .args .levels .now) (start .args .on .condition .0) (lot-a start) (lot-b start) (start .args .on .after .0) (start .args .at .level) _
-                    (path .standing .represents .lots) (path .settled) (path .splits) (path .leaves) (join .result .lots) (d .settle .last .0) (join .ensures .0) (noted-level d);
+                    under-settled (limitOf (start .args .at .limit)) (lotCount (bytes start)) (bytes start) (start .args .on) (path .path) (start .args .levels .now) (start .args .at .level)
+                    (start .args .map .lots) (path .standing .represents .lots) (path .settled) (path .splits) (path .leaves) (join .result .lots) (d .settle .last .0) (join .ensures .0) (noted-level d);
                 path = _;
                 standing = same-standing (path .standing) ok _ _ (path .splits) (join .result) (join .ensures .0);
                 resumes = tt;
                 levels = same-level (path .standing) ok _ _ (path .splits) (start .args .at .level) (path .levels);
-              }),
+              })),
         ),
       )
 
@@ -465,12 +489,14 @@ module _ (t : ℕ) where
         omega (
           arith,
           start .pre .0,
+          ap (λ (l : ℕ). openByMap l (bytes start) (start .args .map .lots) (apart-set .set-apart .last .0) (start .args .count + 1)) (step .3),
           apart-less (path .standing) ok _ _ (path .splits) (pairs₂ under) (apart-set .set-apart .last .0) (pairs-sized under) (under .visit .ensures .1 .0) (apart-set .set-apart .ensures),
         ),
         (
           subst (λ (m : ℕ). Searchable (bytes start) m (grouping₂ under)) (sym (step .0))
-              (record { sheet = start .pre .1 .0 .sheet; lots = omega (arith, start .pre .1 .0 .lots, grouping-sized under) }),
-          subst (λ (k : ℕ). Visitable (bytes start) (start .args .map) (turned .apart-place .result) (start .args .count + 1) k (apart-set .set-apart .last .0) (cleared .clear-above .last .0)) (sym (step .2))
+              (record { sheet = start .pre .1 .0 .sheet; lots = grouping-sized under ∙ start .pre .1 .0 .lots }),
+          subst (λ (l : ℕ). Visitable l (bytes start) (start .args .map) (turned .apart-place .result) (start .args .count + 1) (turned .before .in-apart .result .level) (apart-set .set-apart .last .0) (cleared .clear-above .last .0)) (sym (step .3))
+              (subst (λ (k : ℕ). Visitable (start .args .at .limit) (bytes start) (start .args .map) (turned .apart-place .result) (start .args .count + 1) k (apart-set .set-apart .last .0) (cleared .clear-above .last .0)) (sym (step .2))
               (record {
                 settled =
                     restored-settled (start .args .map .lots) (bytes start) (start .args .levels .now) (levels₂ under) (cleared .clear-above .last .0) (start .args .at .level)
@@ -479,7 +505,7 @@ module _ (t : ℕ) where
                 standing = branches-apart apart-set _ (path .standing, path .splits);
                 resumes = branches-resumes turned _ (path .leaves);
                 levels = apart-level (path .standing) ok _ _ (path .splits) (start .args .at .level) (path .levels);
-              }),
+              })),
         ),
       )
 
@@ -518,14 +544,18 @@ module _ (t : ℕ) where
       let under = over-same over in
       let start = same-begun under in
       let found = over .before .under-same .given in
-      let step = done-turned done .before .in-apart .ensures in (
+      let step = done-turned done .before .in-apart .ensures in
+      let told =
+      subst (λ (l : ℕ). VisitExplores l (bytes start) (start .args .map) (done-turned done .apart-place .result) (start .args .count + 1) (apart-set .set-apart .last .0)
+      (done-turned done .before .in-apart .result .before) (next .last .0) (done .visit2 .last .1 .1 .1 .1 .1 .1 .1 .0) (grouping₂ under) (done .visit2 .last .1 .1 .1 .1 .1 .1 .0)
+      (done .visit2 .result)) (step .3) (done .visit2 .ensures .0) in (
         (λ ds tree st e res v.
             split-apart (split-tree v e) (start .args .at .before) (start .args .store .now) _ (store₂ under) (start .args .grouping .now) _
             (branches-written (written (noted under))) _ (branches-told under ds (st, e)) (found .0 .0) (found .1) (next .last .0) _ _ _
             (next .ensures)
             (λ u w.
             subst (λ (k : ℕ). Explored k (next .last .0) (done .visit2 .last .1 .1 .1 .1 .1 .1 .1 .0) (grouping₂ under) (done .visit2 .last .1 .1 .1 .1 .1 .1 .0) (done .visit2 .result) u) (step .1)
-            (done .visit2 .ensures .0 _ u (branches-apart apart-set ds (st, e)) (branches-resumes (done-turned done) ds res) w))),
+            (told _ u (branches-apart apart-set ds (st, e)) (branches-resumes (done-turned done) ds res) w))),
         (
           untouched-through (start .args .pairs .now) (pairs₂ under) (apart-set .set-apart .last .0) (done .visit2 .last .1 .1 .1 .1 .1 .0) (start .args .count) (lot-a start) (lot-b start)
               (under .visit .ensures .1 .0) (apart-set .set-apart .ensures) (done .visit2 .ensures .1 .0),
@@ -546,16 +576,19 @@ module _ (t : ℕ) where
 
   -- and where the node is known, and the pairs are back.
   abbrev Known : Type 0
-  Known = visit-lts.After-slice-known6 (visit-claims t) (visit-at t) visit.Post
+  Known = visit-lts.After-slice-known7 (visit-claims t) (visit-at t) visit.Post
 
   abbrev room-opened : Room → Opened
   room-opened c = c .before .before .before .before .before .before .before .before
 
-  abbrev looked : Known → visit-lts.After-node-at (visit-claims t) (visit-at t) visit.Post
+  abbrev looked : Known → visit-lts.After-limited (visit-claims t) (visit-at t) visit.Post
   looked c = c .before .before
 
+  abbrev found-at : Known → visit-lts.After-node-at (visit-claims t) (visit-at t) visit.Post
+  found-at c = looked c .before .before .before .before
+
   abbrev located : Known → visit-lts.After-locate (visit-claims t) (visit-at t) visit.Post
-  located c = looked c .before .before .before .before
+  located c = found-at c .before .before .before .before
 
   abbrev roomy : Known → Room
   roomy c = located c .before .before
@@ -568,7 +601,13 @@ module _ (t : ℕ) where
 
   -- Any path that the map and the pairs represent, and from which the visit may go on.
   abbrev Visited-by : Opened → Decisions → Type 0
-  Visited-by c ds = Standing (sheet c) (c .args .map) (c .args .pairs .now) (c .args .count) ds × Resumes (sheet c) (c .args .from) ds
+  Visited-by c ds =
+      Standing (c .args .at .limit) (sheet c) (c .args .map) (c .args .pairs .now) (c .args .count) ds
+      × Resumes (limitOf (c .args .at .limit)) (lotCount (sheet c)) (sheet c) (c .args .from) ds
+
+  -- There is a byte of the grouping for each lot.
+  lots-within : (c : Opened) → length (c .args .grouping .now) ≤ mostLots
+  lots-within c = omega (arith, c .pre .1 .0 .lots, sound (sheet c) (c .pre .1 .0 .sheet .accepted) .header .lots)
 
   -- ---- visit: what is known of the node
 
@@ -576,28 +615,59 @@ module _ (t : ℕ) where
   visit-room : (c : Room) → room-opened c .args .at .before < capacity (room-opened c .args .store .now)
   visit-room c = omega (arith, c .before .capacity-of .ensures, c .if1 .left)
 
+  -- where it stands,
+  visit-stands : (c : Known) (ds : Decisions) → Visited-by (opened c) ds
+      → Stands (limitOf (opened c .args .at .limit)) (length (opened c .args .grouping .now)) (sheet (opened c)) (located c .locate .result) ds
+  visit-stands c ds at =
+      let start = opened c in
+      located c .locate .ensures .0 (limitOf (start .args .at .limit)) (length (start .args .grouping .now)) ds (at .0 .represents .lots)
+      (subst (λ (n : ℕ). Resumes (limitOf (start .args .at .limit)) n (sheet start) (start .args .from) ds) (sym (start .pre .1 .0 .lots)) (at .1))
+
+  -- the pairs once the conditions' node has marked its table, or has not: they are as they were;
+  abbrev pairs₀ : Known → List ℕ
+  pairs₀ c = found-at c .node-at .last .1 .1 .1 .0
+
+  abbrev pairs₀-sized : (c : Known) → length (pairs₀ c) ≡ length (opened c .args .pairs .now)
+  pairs₀-sized c = found-at c .node-at .kept .1 .1 .1 .0
+
+  untouched₀ : (c : Known) → Untouched (opened c .args .pairs .now) (pairs₀ c) (opened c .args .count)
+  untouched₀ c = outside-front (found-at c .node-at .ensures .1 .1) (opened c .args .count) (omega (arith, opened c .pre .1 .1 .standing .room))
+
+  represents₀ : (c : Known) (ds : Decisions) → Standing (opened c .args .at .limit) (sheet (opened c)) (opened c .args .map) (opened c .args .pairs .now) (opened c .args .count) ds
+      → Represents (opened c .args .map) (pairs₀ c) (opened c .args .count) ds
+  represents₀ c ds st = below-standing st (pairs₀ c) (pairs₀-sized c) (untouched₀ c) .represents
+
   -- what kind it is,
-  visit-node : (c : Known) (ds : Decisions) → Visited-by (opened c) ds → node ds (conditions (sheet (opened c))) ≡ nodeAs (looked c .node-at .result)
-  visit-node c ds at = sym (looked c .node-at .ensures .0 ds (at .0 .represents) (located c .locate .ensures .0 ds (at .0 .represents .lots) (at .1)))
+  visit-node : (c : Known) (ds : Decisions) → Visited-by (opened c) ds → ruleOf (opened c .args .at .limit) (sheet (opened c)) ds ≡ nodeAs (looked c .limited .result)
+  visit-node c ds at =
+      let start = opened c in
+      let w = visit-stands c ds at in
+      sym (subst (λ (n : ℕ). nodeAs (looked c .limited .result) ≡ nodeUnder (limitOf (start .args .at .limit)) n (conditions (sheet start)) ds) (start .pre .1 .0 .lots)
+      (looked c .limited .ensures .0 (sheet start) ds (represents₀ c ds (at .0)) w (found-at c .node-at .ensures .0 _ _ ds (at .0 .represents) w)))
 
   -- and, if it is a split, where its apart branch goes on.
-  visit-leaves : (c : Known) (ds : Decisions) → Visited-by (opened c) ds → (kind : declared.Node) → looked c .node-at .result ≡ kind → Leaves (sheet (opened c)) kind ds
+  visit-leaves : (c : Known) (ds : Decisions) → Visited-by (opened c) ds → (kind : declared.Node) → looked c .limited .result ≡ kind
+      → Leaves (limitOf (opened c .args .at .limit)) (lotCount (sheet (opened c))) (sheet (opened c)) kind ds
   visit-leaves c ds at kind e =
-      subst (λ (n : declared.Node). Leaves (sheet (opened c)) n ds) e
-      (looked c .node-at .ensures .1 .0 ds (at .0 .represents) (located c .locate .ensures .0 ds (at .0 .represents .lots) (at .1)))
+      subst (λ (n : declared.Node). Leaves (limitOf (opened c .args .at .limit)) (lotCount (sheet (opened c))) (sheet (opened c)) n ds) e
+      (subst (λ (n : ℕ). Leaves (limitOf (opened c .args .at .limit)) n (sheet (opened c)) (looked c .limited .result) ds) (opened c .pre .1 .0 .lots)
+      (looked c .limited .ensures .1 .0 (sheet (opened c)) ds (represents₀ c ds (at .0)) (visit-stands c ds at)
+      (found-at c .node-at .ensures .1 .0 _ _ ds (at .0 .represents) (visit-stands c ds at))))
 
-  -- The pairs once the node has marked its table, or has not: they are as they were.
+  -- Likewise once the limit's node has marked it.
   abbrev pairs₁ : Known → List ℕ
-  pairs₁ c = looked c .node-at .last .1 .1 .1 .0
+  pairs₁ c = looked c .limited .last .1 .1 .1 .1 .0
 
-  abbrev pairs₁-sized : (c : Known) → length (pairs₁ c) ≡ length (opened c .args .pairs .now)
-  pairs₁-sized c = looked c .node-at .kept .1 .1 .1 .0
+  pairs₁-sized : (c : Known) → length (pairs₁ c) ≡ length (opened c .args .pairs .now)
+  pairs₁-sized c = looked c .limited .kept .1 .1 .1 .1 .0 ∙ pairs₀-sized c
 
   visit-untouched : (c : Known) → Untouched (opened c .args .pairs .now) (pairs₁ c) (opened c .args .count)
-  visit-untouched c = outside-front (looked c .node-at .ensures .1 .1) (opened c .args .count) (omega (arith, opened c .pre .1 .1 .standing .room))
+  visit-untouched c i h =
+      outside-front (looked c .limited .ensures .1 .1) (opened c .args .count) (omega (arith, opened c .pre .1 .1 .standing .room, pairs₀-sized c)) i h
+      ∙ untouched₀ c i h
 
-  visit-standing : (c : Known) (ds : Decisions) → Standing (sheet (opened c)) (opened c .args .map) (opened c .args .pairs .now) (opened c .args .count) ds
-      → Standing (sheet (opened c)) (opened c .args .map) (pairs₁ c) (opened c .args .count) ds
+  visit-standing : (c : Known) (ds : Decisions) → Standing (opened c .args .at .limit) (sheet (opened c)) (opened c .args .map) (opened c .args .pairs .now) (opened c .args .count) ds
+      → Standing (opened c .args .at .limit) (sheet (opened c)) (opened c .args .map) (pairs₁ c) (opened c .args .count) ds
   visit-standing c ds st = below-standing st (pairs₁ c) (pairs₁-sized c) (visit-untouched c)
 
   -- ---- visit: its needs
@@ -626,7 +696,24 @@ module _ (t : ℕ) where
   visit-locate-requires c κs =
       let start = room-opened (c .before) in
       let path = start .pre .1 .1 in
-      (start .pre .1 .0 .sheet, place-within (sheet start) (start .args .from) (path .path) (path .resumes), path .settled)
+      (start .pre .1 .0 .sheet, place-within (limitOf (start .args .at .limit)) (sheet start) (start .args .from) (path .path) (path .resumes), path .settled)
+
+  visit-cast-lots : visit-lts.Need-cast-lots (visit-claims t) (visit-at t) visit.Post
+  visit-cast-lots c =
+      record { fits = omega (arith, lots-within (room-opened (c .before .before .before .before .before .before .before .before))) }
+
+  visit-limited-requires : visit-lts.Need-limited-requires (visit-claims t) (visit-at t) visit.Post
+  visit-limited-requires c κs =
+      let called = c .before .before .before in
+      let d = called .before .before .before .before in
+      let start = room-opened (d .before .before) in
+      let standing = start .pre .1 .1 .standing in (
+        markable
+            (below-standing standing (called .node-at .last .1 .1 .1 .0) (called .node-at .kept .1 .1 .1 .0)
+            (outside-front (called .node-at .ensures .1 .1) (start .args .count) (omega (arith, standing .room)))),
+        lots-within start,
+        (sheet start, d .locate .ensures .1 .0),
+      )
 
   visit-node-at-requires : visit-lts.Need-node-at-requires (visit-claims t) (visit-at t) visit.Post
   visit-node-at-requires c κs =
@@ -638,8 +725,8 @@ module _ (t : ℕ) where
   visit-enum-told : visit-lts.Need-enum-told (visit-claims t) (visit-at t) visit.Post
   visit-enum-told c = search needs
 
-  visit-add-t28 : visit-lts.Need-add-t28 (visit-claims t) (visit-at t) visit.Post
-  visit-add-t28 c = search needs
+  visit-add-t32 : visit-lts.Need-add-t32 (visit-claims t) (visit-at t) visit.Post
+  visit-add-t32 c = search needs
 
   visit-write-requires : visit-lts.Need-write-requires (visit-claims t) (visit-at t) visit.Post
   visit-write-requires c κs =
@@ -650,16 +737,16 @@ module _ (t : ℕ) where
   visit-write-grouping-requires : visit-lts.Need-write-grouping-requires (visit-claims t) (visit-at t) visit.Post
   visit-write-grouping-requires c κs =
       let start = opened (c .before .before .before .before .before .before .before) in
-      (start .pre .1 .0 .lots, entries-within (start .pre .1 .1 .standing))
+      (lots-within start, entries-within (start .pre .1 .1 .standing))
 
-  visit-add-t28-2 : visit-lts.Need-add-t28-2 (visit-claims t) (visit-at t) visit.Post
-  visit-add-t28-2 c = search needs
+  visit-add-t32-2 : visit-lts.Need-add-t32-2 (visit-claims t) (visit-at t) visit.Post
+  visit-add-t32-2 c = search needs
 
   visit-enum-known-node : visit-lts.Need-enum-known-node (visit-claims t) (visit-at t) visit.Post
   visit-enum-known-node c = search needs
 
-  visit-add-t36 : visit-lts.Need-add-t36 (visit-claims t) (visit-at t) visit.Post
-  visit-add-t36 c = search needs
+  visit-add-t40 : visit-lts.Need-add-t40 (visit-claims t) (visit-at t) visit.Post
+  visit-add-t40 c = search needs
 
   visit-write-requires-2 : visit-lts.Need-write-requires-2 (visit-claims t) (visit-at t) visit.Post
   visit-write-requires-2 c κs =
@@ -667,8 +754,23 @@ module _ (t : ℕ) where
       let start = room-opened d in
       (has-place (start .args .store .now) (start .args .at .before) (visit-room d) (start .args .store .now) refl, search needs)
 
-  visit-add-t36-2 : visit-lts.Need-add-t36-2 (visit-claims t) (visit-at t) visit.Post
-  visit-add-t36-2 c = search needs
+  visit-add-t40-2 : visit-lts.Need-add-t40-2 (visit-claims t) (visit-at t) visit.Post
+  visit-add-t40-2 c = search needs
+
+  visit-enum-told-2 : visit-lts.Need-enum-told-2 (visit-claims t) (visit-at t) visit.Post
+  visit-enum-told-2 c = search needs
+
+  visit-add-t46 : visit-lts.Need-add-t46 (visit-claims t) (visit-at t) visit.Post
+  visit-add-t46 c = search needs
+
+  visit-write-requires-3 : visit-lts.Need-write-requires-3 (visit-claims t) (visit-at t) visit.Post
+  visit-write-requires-3 c κs =
+      let d = roomy (c .before .before .before) in
+      let start = room-opened d in
+      (has-place (start .args .store .now) (start .args .at .before) (visit-room d) (start .args .store .now) refl, tt)
+
+  visit-add-t46-2 : visit-lts.Need-add-t46-2 (visit-claims t) (visit-at t) visit.Post
+  visit-add-t46-2 c = search needs
 
   visit-enum-known-node-2 : visit-lts.Need-enum-known-node-2 (visit-claims t) (visit-at t) visit.Post
   visit-enum-known-node-2 c = search needs
@@ -696,7 +798,7 @@ module _ (t : ℕ) where
       )
 
   -- The ends of the met node,
-  abbrev grouped : visit-lts.After-slice-known8 (visit-claims t) (visit-at t) visit.Post → visit-lts.After-write-grouping (visit-claims t) (visit-at t) visit.Post
+  abbrev grouped : visit-lts.After-slice-known9 (visit-claims t) (visit-at t) visit.Post → visit-lts.After-write-grouping (visit-claims t) (visit-at t) visit.Post
   grouped c = c .before .before
 
   visit-same-length-2 : visit-lts.Need-same-length-2 (visit-claims t) (visit-at t) visit.Post
@@ -752,7 +854,7 @@ module _ (t : ℕ) where
         (visit-untouched found, located found .locate .ensures .1 .1 .1),
       )
 
-  -- and of a split.
+  -- of a clique,
   visit-same-length-9 : visit-lts.Need-same-length-9 (visit-claims t) (visit-at t) visit.Post
   visit-same-length-9 c = search needs
 
@@ -762,11 +864,38 @@ module _ (t : ℕ) where
   visit-same-length-11 : visit-lts.Need-same-length-11 (visit-claims t) (visit-at t) visit.Post
   visit-same-length-11 c = search needs
 
+  visit-returns-4 : visit-lts.Need-returns-4 (visit-claims t) (visit-at t) visit.Post
+  visit-returns-4 c =
+      let record-at = c .before .before in
+      let told = record-at .before .before in
+      let found = told .before .before in
+      let start = opened found in
+      let place : start .args .at .before + 1 - 1 ≡ start .args .at .before = omega arith in (
+        (λ ds tree st res v.
+            clique-explored (start .args .at .before) (start .args .store .now) _ (start .args .grouping .now) (visit-room (roomy found)) tree
+            (clique-tree v (visit-node found ds (st, res) ∙ ap nodeAs (told .enum-told2 .given .1)))
+            (record-at .write3 .ensures ∙ ap (λ (k : ℕ). sets (start .args .store .now) (recordLength * k) (encode cliqueRecord)) place)),
+        (visit-untouched found, located found .locate .ensures .1 .1 .1),
+      )
+
+  -- and of a split.
   visit-same-length-12 : visit-lts.Need-same-length-12 (visit-claims t) (visit-at t) visit.Post
   visit-same-length-12 c = search needs
 
-  visit-returns-4 : visit-lts.Need-returns-4 (visit-claims t) (visit-at t) visit.Post
-  visit-returns-4 c =
+  visit-same-length-13 : visit-lts.Need-same-length-13 (visit-claims t) (visit-at t) visit.Post
+  visit-same-length-13 c = search needs
+
+  visit-same-length-14 : visit-lts.Need-same-length-14 (visit-claims t) (visit-at t) visit.Post
+  visit-same-length-14 c = search needs
+
+  visit-same-length-15 : visit-lts.Need-same-length-15 (visit-claims t) (visit-at t) visit.Post
+  visit-same-length-15 c =
+      let ended = c .before .before .before .before .before .before .before .before in
+      let found = ended .before .before .before .before .before .before .before .before in
+      ended .branches .kept .1 .1 .1 .1 .1 .1 .1 .1 .0 ∙ located found .locate .kept .1 .1 .1 .1 .0
+
+  visit-returns-5 : visit-lts.Need-returns-5 (visit-claims t) (visit-at t) visit.Post
+  visit-returns-5 c =
       let ended = c .before .before .before .before .before .before .before .before in
       let split-found = ended .before .before .before .before .before .before in
       let found = split-found .before .before in
@@ -842,6 +971,8 @@ pub +branches+visit-spec : {M : Type 1} → statement M
       locate-reads.Learnt,
       node-at-reads.Asked,
       node-at-reads.Learnt,
+      limited-reads.Asked,
+      limited-reads.Learnt,
       write-reads.Asked,
       write-reads.Learnt,
       write-grouping-reads.Asked,
@@ -857,15 +988,21 @@ pub +branches+visit-spec : {M : Type 1} → statement M
     (visit-returns t)
     (visit-locate-requires t)
     (visit-node-at-requires t)
+    (visit-cast-lots t)
+    (visit-limited-requires t)
     (visit-enum-told t)
-    (visit-add-t28 t)
+    (visit-add-t32 t)
     (visit-write-requires t)
     (visit-write-grouping-requires t)
-    (visit-add-t28-2 t)
+    (visit-add-t32-2 t)
     (visit-enum-known-node t)
-    (visit-add-t36 t)
+    (visit-add-t40 t)
     (visit-write-requires-2 t)
-    (visit-add-t36-2 t)
+    (visit-add-t40-2 t)
+    (visit-enum-told-2 t)
+    (visit-add-t46 t)
+    (visit-write-requires-3 t)
+    (visit-add-t46-2 t)
     (visit-enum-known-node-2 t)
     (visit-branches-requires t)
     (visit-same-length-2 t)
@@ -880,5 +1017,9 @@ pub +branches+visit-spec : {M : Type 1} → statement M
     (visit-same-length-9 t)
     (visit-same-length-10 t)
     (visit-same-length-11 t)
-    (visit-same-length-12 t)
     (visit-returns-4 t)
+    (visit-same-length-12 t)
+    (visit-same-length-13 t)
+    (visit-same-length-14 t)
+    (visit-same-length-15 t)
+    (visit-returns-5 t)

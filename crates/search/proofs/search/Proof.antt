@@ -4,7 +4,8 @@ use mathlib.Core.Path.{sym, ap, _∙_}
 use native.Mathlib.Omega.{arith}
 use Rattle.sheet.specs.Answers.{readingAnswer}
 use Rattle.sheet.proofs.Readings.{ReadAs, read-accepts, read-refuses}
-use Rattle.equality.proofs.Checked.{sheet-refused, grouping-short, all-pass}
+use Rattle.limit.specs.Meaning.{unlimited}
+use Rattle.outcome.proofs.Checked.{under-refused, under-short, under-all, none-checked}
 use Rattle.search.specs.declared.SearchAnswer.the-variants.{Refused}
 use Rattle.search.proofs.Entry.{refused-ends, ensured}
 use Rattle.search.proofs.search.Statement.{statement}
@@ -35,12 +36,12 @@ returns c =
     let a = accepted (c .before .before) in
     let begin = c .before .before .before .before .before .before .before .before .args in
     ensured (begin .sheet .now) (begin .grouping .now) (begin .store .now)
-    (grouping-short (begin .sheet .now) (begin .grouping .now) (a .accepted) (omega (arith, a .lots, c .if1 .taken)))
+    (under-short unlimited (begin .sheet .now) (begin .grouping .now) (a .accepted) none-checked (omega (arith, a .lots, c .if1 .taken)))
     (begin .grouping .now) (begin .store .now) (Refused 8 _)
-    (rw (a .lots) (refused-ends (begin .sheet .now) (begin .grouping .now) (begin .store .now) 8 _))
+    (rw (a .lots) (refused-ends unlimited (begin .sheet .now) (begin .grouping .now) (begin .store .now) 8 _))
 
-search-accepted-requires : tie.Need-search-accepted-requires
-search-accepted-requires c κs =
+without-limit-requires : tie.Need-without-limit-requires
+without-limit-requires c κs =
     let a = accepted (c .before .before .before .before) in
     (record { accepted = a .accepted; counted = a .conditions }, a .lots, omega (arith, c .before .before .if1 .left))
 
@@ -48,10 +49,10 @@ returns-2 : tie.Need-returns-2
 returns-2 c =
     let begin = c .before .before .before .before .before .before .before .args in
     ensured (begin .sheet .now) (begin .grouping .now) (begin .store .now)
-    (sheet-refused (begin .sheet .now) (begin .grouping .now) _ _
+    (under-refused unlimited (begin .sheet .now) (begin .grouping .now) _ _
     (read-refuses (begin .sheet .now) _ _ (ap readingAnswer (sym (c .before .reading .given .1)) ∙ c .before .before .before .read .ensures)))
     (begin .grouping .now) (begin .store .now) (Refused _ _)
-    (refused-ends (begin .sheet .now) (begin .grouping .now) (begin .store .now) _ _)
+    (refused-ends unlimited (begin .sheet .now) (begin .grouping .now) (begin .store .now) _ _)
 
 same-length : tie.Need-same-length
 same-length c = search needs
@@ -64,9 +65,9 @@ returns-3 c =
     let a = accepted (c .before .before .before .before .before .before .before .before .before) in
     let begin = c .before .before .before .before .before .before .before .before .before .before .before .before .before .before .before .args in
     ensured (begin .sheet .now) (begin .grouping .now) (begin .store .now)
-    (all-pass (begin .sheet .now) (begin .grouping .now) (a .accepted) (omega (arith, a .lots, c .before .before .before .before .before .before .before .if1 .left)))
-    (c .before .before .before .before .search-accepted .last .1 .1 .1 .0) (c .before .before .before .before .search-accepted .last .1 .1 .1 .1 .0) (c .before .before .before .before .search-accepted .result)
-    (rw (a .lots) at (c .before .before .before .before .search-accepted .ensures))
+    (under-all unlimited (begin .sheet .now) (begin .grouping .now) (a .accepted) none-checked (omega (arith, a .lots, c .before .before .before .before .before .before .before .if1 .left)))
+    (c .before .before .before .before .without-limit .last .1 .1 .1 .0) (c .before .before .before .before .without-limit .last .1 .1 .1 .1 .0) (c .before .before .before .before .without-limit .result)
+    (rw (a .lots) at (c .before .before .before .before .without-limit .ensures))
 
 pub search-spec : {M : Type 1} → statement M
 search-spec =
@@ -78,7 +79,7 @@ search-spec =
     cast-if1
     cast-t13
     returns
-    search-accepted-requires
+    without-limit-requires
     returns-2
     same-length
     same-length-2
