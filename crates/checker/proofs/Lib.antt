@@ -1,5 +1,6 @@
 pub mod Splits
 pub mod Grounds
+pub mod Cliques
 pub mod Stepping
 pub mod Walking
 pub mod Entry

@@ -1,9 +1,10 @@
--- What follows a ground and a split, case by case.
+-- What follows a ground, and what a split, a ground and a clique come to, case by case.
 use Prim.Native.Nat.{ℕ, suc, _+_, _-_, _≤_, _<_}
 use mathlib.Core.Bool.{true, false, and-false, false≢true}
 use mathlib.Core.List.{List, [], _∷_}
 use mathlib.Core.Path.{_≡_, refl, sym, ap, _∙_}
 use native.Mathlib.Numerals.{add-one}
+use native.Mathlib.Omega.{arith}
 use borrow.Author.Tests.{eq-eqb, ne-eqb, le-leb, lt-leb}
 use lib.Dec.{leb}
 use lib.ListN.{length}
@@ -12,11 +13,21 @@ use Rattle.sheet.specs.Checks.{lotInRange}
 use Rattle.sheet.specs.Conditions.{same}
 use Rattle.sheet.specs.declared.Verdict.{Verdict}
 use Rattle.sheet.specs.declared.Verdict.the-variants.{Passes, Refuses}
+use Rattle.limit.specs.Meaning.{Limit, unlimited, upTo}
+use Rattle.limit.specs.Rule.{cliquePasses}
+use Rattle.limit.specs.Scan.{limitOf}
+use Rattle.limit.proofs.Range.{limit-of}
 use Rattle.store.specs.Records.{NodeRecord, splitRecord, groundRecord}
-use Rattle.refutation.specs.Refutation.{Split, mostSplits, decisionsOf, groundFails, sameSplit, nearest, turned, mustEnd, afterGround, named, conditionInRange, walkRecord}
+use Rattle.refutation.specs.Refutation.{mostSplits, Split, decisionsOf, groundFails, sameSplit, nearest, turned, mustEnd, afterGround}
+use Rattle.refutation.specs.Refutation.{named, conditionInRange, walkClique, walkRecord}
 use Rattle.path.specs.Paths.{splitIn, firstLotIn, secondLotIn, pathOf, nearestAs}
 use Rattle.path.proofs.Splits.{nearest-some}
 use Rattle.checker.specs.Steps.{noneLeft}
+
+-- No walk goes deeper than one with a limit.
+pub no-deeper : (limit : Limit) (g : ℕ) → mostSplits limit ≤ mostSplits (upTo g)
+no-deeper unlimited g = omega arith
+no-deeper (upTo k) g = omega arith
 
 -- ---- after a ground
 
@@ -63,9 +74,9 @@ module _ (walkRest : ℕ → List Split → Verdict) (rest : List NodeRecord) (f
 
 -- ---- a split
 
-module _ (s : List ℕ) (walkRest : ℕ → List Split → Verdict) (rest : List NodeRecord) (r : ℕ) (above : List Split) (a b next : ℕ) where
+module _ (limit : Limit) (s : List ℕ) (walkRest : ℕ → List Split → Verdict) (rest : List NodeRecord) (r : ℕ) (above : List Split) (a b next : ℕ) where
   abbrev pub AtSplit : Verdict → Type 0
-  AtSplit v = walkRecord lowestLot s walkRest rest r above (splitRecord a b next) ≡ v
+  AtSplit v = walkRecord limit lowestLot s walkRest rest r above (splitRecord a b next) ≡ v
 
   -- A lot is out of range,
   pub first-out : lotInRange lowestLot (lotCount s) a ≡ false → AtSplit (Refuses 11 r)
@@ -76,22 +87,22 @@ module _ (s : List ℕ) (walkRest : ℕ → List Split → Verdict) (rest : List
 
   module _ (first : lotInRange lowestLot (lotCount s) a ≡ true) (second : lotInRange lowestLot (lotCount s) b ≡ true) where
     -- too many splits stand above it,
-    pub too-deep : mostSplits ≤ length above → AtSplit (Refuses 15 r)
-    too-deep h = simp (first, second, le-leb mostSplits (length above) h)
+    pub too-deep : mostSplits limit ≤ length above → AtSplit (Refuses 15 r)
+    too-deep h = simp (first, second, le-leb (mostSplits limit) (length above) h)
 
     -- or the walk goes on below it.
-    pub pushed : length above < mostSplits → (below : List Split) → below ≡ record { number = r; next = next; decision = same a b } ∷ above
+    pub pushed : length above < mostSplits limit → (below : List Split) → below ≡ record { number = r; next = next; decision = same a b } ∷ above
         → AtSplit (walkRest (r + 1) below)
     pushed h below e =
         let go-on : AtSplit (walkRest (suc r) (record { number = r; next = next; decision = same a b } ∷ above)) =
-        simp (first, second, lt-leb mostSplits (length above) h) in
+        simp (first, second, lt-leb (mostSplits limit) (length above) h) in
         go-on ∙ (λ i. walkRest (sym (add-one r) i) (sym e i))
 
 -- ---- a ground
 
-module _ (s : List ℕ) (walkRest : ℕ → List Split → Verdict) (rest : List NodeRecord) (r : ℕ) (above : List Split) (c : ℕ) where
+module _ (limit : Limit) (s : List ℕ) (walkRest : ℕ → List Split → Verdict) (rest : List NodeRecord) (r : ℕ) (above : List Split) (c : ℕ) where
   abbrev pub AtGround : Verdict → Type 0
-  AtGround v = walkRecord lowestLot s walkRest rest r above (groundRecord c) ≡ v
+  AtGround v = walkRecord limit lowestLot s walkRest rest r above (groundRecord c) ≡ v
 
   -- Its condition is none of the sheet's,
   pub condition-out : conditionInRange s c ≡ false → AtGround (Refuses 11 r)
@@ -118,3 +129,22 @@ module _ (s : List ℕ) (c : ℕ) where
 
   pub condition-within : 1 ≤ c → c ≤ conditionCount s → conditionInRange s c ≡ true
   condition-within low high = simp (le-leb 1 c low, le-leb c (conditionCount s) high)
+
+-- ---- a clique
+
+module _ (limit n : ℕ) (walkRest : ℕ → List Split → Verdict) (rest : List NodeRecord) (r : ℕ) (above : List Split) where
+  abbrev pub AtClique : Verdict → Type 0
+  AtClique v = walkClique (limitOf limit) n walkRest rest r above ≡ v
+
+  -- Without a limit there is none.
+  pub unlimited-clique : limit ≡ 0 → AtClique (Refuses 11 r)
+  unlimited-clique e = ap (λ (g : ℕ). walkClique (limitOf g) n walkRest rest r above) e
+
+  module _ (some : 1 ≤ limit) where
+    -- With one, fewer classes are left or two of the first aren't marked apart,
+    pub not-clique : cliquePasses limit n (decisionsOf above) ≡ false → AtClique (Refuses 12 r)
+    not-clique e = rw (limit-of limit some) (simp e)
+
+    -- or what follows decides.
+    pub cliqued : cliquePasses limit n (decisionsOf above) ≡ true → AtClique (afterGround walkRest rest (r + 1) (nearest above))
+    cliqued e = rw (limit-of limit some) (simp (e, add-one r))

@@ -11,6 +11,7 @@ use lib.Seq.{drop-cons}
 use Rattle.sheet.specs.Format.{lowestLot}
 use Rattle.sheet.specs.declared.Verdict.the-variants.{Refuses}
 use Rattle.sheet.proofs.Ranges.{length-along, getD-along}
+use Rattle.limit.specs.Meaning.{Limit}
 use Rattle.store.specs.Records.{NodeRecord, noRecord, recordLength, recordAt, recordsOf}
 use Rattle.refutation.specs.Refutation.{walkRecord, walkFrom, walkVerdict}
 use Rattle.path.specs.Paths.{pathOf}
@@ -48,10 +49,10 @@ module _ (list : List ℕ) where
 
 -- ---- the loop
 
-module _ (s list : List ℕ) where
+module _ (limit : Limit) (s list : List ℕ) where
   -- At record r, below the splits of the path.
   abbrev pub Walking : List ℕ → ℕ → ℕ → Type 0
-  Walking path depth r = walkVerdict lowestLot s list ≡ walkFrom lowestLot s (drop (r - 1) (recordsOf list)) r (pathOf path depth)
+  Walking path depth r = walkVerdict limit lowestLot s list ≡ walkFrom limit lowestLot s (drop (r - 1) (recordsOf list)) r (pathOf path depth)
 
   pub walking-start : (path : List ℕ) → Walking path 0 1
   unfolding walkVerdict pathOf
@@ -60,22 +61,23 @@ module _ (s list : List ℕ) where
   -- What a step at record r comes to is what the walk does,
   pub walking-step : (path path′ : List ℕ) (depth r : ℕ) → Walking path depth r → 1 ≤ r → r ≤ length list / recordLength → (v : Step)
       → ((walkRest : WalkRest) (rest : Rest) → eqb r (length list / recordLength) ≡ noneLeft rest
-      → walkRecord lowestLot s walkRest rest r (pathOf path depth) (recordAt list r) ≡ stepAs walkRest (r + 1) path′ v)
-      → walkVerdict lowestLot s list ≡ stepAs (walkFrom lowestLot s (drop r (recordsOf list))) (r + 1) path′ v
+      → walkRecord limit lowestLot s walkRest rest r (pathOf path depth) (recordAt list r) ≡ stepAs walkRest (r + 1) path′ v)
+      → walkVerdict limit lowestLot s list ≡ stepAs (walkFrom limit lowestLot s (drop r (recordsOf list))) (r + 1) path′ v
   unfolding walkFrom
   walking-step path path′ depth r walking low high v told =
       walking
-      ∙ ap (λ (rs : List NodeRecord). walkFrom lowestLot s rs r (pathOf path depth)) (records-step list r low high)
-      ∙ told (walkFrom lowestLot s (drop r (recordsOf list))) (drop r (recordsOf list)) (last-left list r high)
+      ∙ ap (λ (rs : List NodeRecord). walkFrom limit lowestLot s rs r (pathOf path depth)) (records-step list r low high)
+      ∙ told (walkFrom limit lowestLot s (drop r (recordsOf list))) (drop r (recordsOf list)) (last-left list r high)
 
   -- where it goes on, at the following record;
-  pub walking-on : (path : List ℕ) (depth r : ℕ) → walkVerdict lowestLot s list ≡ walkFrom lowestLot s (drop r (recordsOf list)) (r + 1) (pathOf path depth) → Walking path depth (r + 1)
+  pub walking-on : (path : List ℕ) (depth r : ℕ)
+      → walkVerdict limit lowestLot s list ≡ walkFrom limit lowestLot s (drop r (recordsOf list)) (r + 1) (pathOf path depth) → Walking path depth (r + 1)
   walking-on path depth r e =
       let at : r + 1 - 1 ≡ r = omega arith in
-      e ∙ ap (λ (k : ℕ). walkFrom lowestLot s (drop k (recordsOf list)) (r + 1) (pathOf path depth)) (sym at)
+      e ∙ ap (λ (k : ℕ). walkFrom limit lowestLot s (drop k (recordsOf list)) (r + 1) (pathOf path depth)) (sym at)
 
   -- and past the last record one is missing.
-  pub walking-end : (path : List ℕ) (depth r : ℕ) → Walking path depth r → length list / recordLength < r → walkVerdict lowestLot s list ≡ Refuses 14 r
+  pub walking-end : (path : List ℕ) (depth r : ℕ) → Walking path depth r → length list / recordLength < r → walkVerdict limit lowestLot s list ≡ Refuses 14 r
   unfolding walkFrom
   walking-end path depth r walking h =
-      walking ∙ ap (λ (rs : List NodeRecord). walkFrom lowestLot s rs r (pathOf path depth)) (records-end list (r - 1) (omega arith))
+      walking ∙ ap (λ (rs : List NodeRecord). walkFrom limit lowestLot s rs r (pathOf path depth)) (records-end list (r - 1) (omega arith))

@@ -1,8 +1,9 @@
 -- The steps of the walk, for the contracts of the code; this file states nothing of document 01.
-use Prim.Native.Nat.{ℕ}
+use Prim.Native.Nat.{ℕ, _*_, _≤_, _<_}
 use mathlib.Core.Bool.{Bool, true, false}
 use mathlib.Core.List.{List, [], _∷_}
 use mathlib.Core.Path.{_≡_}
+use lib.ListN.{length}
 use Rattle.sheet.specs.declared.Header.{Header}
 use Rattle.sheet.specs.declared.Verdict as verdicts
 use Rattle.sheet.specs.declared.Verdict.the-variants as verdict
@@ -10,7 +11,7 @@ use Rattle.sheet.specs.Format.{lotCount}
 use Rattle.sheet.specs.Inner.{HasConditions}
 use Rattle.store.specs.Records.{NodeRecord}
 use Rattle.refutation.specs.Refutation.{Split}
-use Rattle.path.specs.Paths.{pathOf}
+use Rattle.path.specs.Paths.{splitLength, pathOf}
 use Rattle.levels.specs.Levels.{Walkable}
 use Rattle.checker.specs.declared.Step.{Step}
 use Rattle.checker.specs.declared.Step.the-variants.{On, Passes, Refuses}
@@ -19,6 +20,11 @@ use Rattle.checker.specs.declared.Step.the-variants.{On, Passes, Refuses
 pub record Counted (s : List ℕ) (counts : Header) : Type 0 where
   pub sheet : HasConditions s (counts .conditions)
   pub lots : counts .lots ≡ lotCount s
+
+-- The lent numbers have room for a path of so many splits, and the lent levels for those under its splits and above them all.
+pub record RoomFor (most : ℕ) (path levels : List ℕ) : Type 0 where
+  pub splits : splitLength * most ≤ length path
+  pub places : most < length levels
 
 -- The records that are left, and the walk over them, from a record's number and the splits above it.
 abbrev pub Rest : Type 0

@@ -1,4 +1,5 @@
-// The refutation checker: whether a list of records, from any hand, refutes a sheet.
+// The refutation checker: whether a list of records, from any hand, refutes a sheet, with a limit on the classes or without one. Inner functions take the
+// limit as a number, 0 where there is none.
 ghost use mathlib.Core.Path.{_≡_};
 ghost use mathlib.Core.Bool.{not, _||_};
 ghost use Prim.Native.Nat.{ℕ, _+_, _*_, _/_, _%_, _≤_, _<_};
@@ -12,14 +13,19 @@ ghost use Rattle.equality.specs.Node.{marked};
 ghost use mathlib.Core.List.{List};
 ghost use Rattle.store.specs.Records.{splitRecord, groundRecord, recordAt, recordLength, mostNodes};
 ghost use Rattle.store.specs.Code.{HasPlace};
-ghost use Rattle.refutation.specs.Refutation.{decisionsOf, groundFails, nearest, afterGround, named, walkRecord, walkVerdict, checkAnswer};
+ghost use Rattle.limit.specs.Meaning.{Limit, unlimited, upTo};
+ghost use Rattle.limit.specs.Rule.{cliquePasses};
+ghost use Rattle.limit.specs.Scan.{limitOf};
+ghost use Rattle.refutation.specs.Refutation.{mostSplits, decisionsOf, groundFails, nearest, afterGround, named, walkClique, walkRecord, walkVerdict};
+ghost use Rattle.refutation.specs.Refutation.{checkAnswer, limitedCheckAnswer};
 ghost use Rattle.path.specs.Paths.{splitLength, pathOf, PathWithin};
-ghost use Rattle.levels.specs.Levels.{Walkable};
-ghost use Rattle.checker.specs.Answers.{checkedAnswer, PassedExactly, PassedMeans};
-ghost use Rattle.checker.specs.Steps.{Counted, Rest, WalkRest, stepAs, noneLeft, GoesOn};
+ghost use Rattle.levels.specs.Levels.{levelUnder, Walkable};
+ghost use Rattle.checker.specs.Answers.{checkedAnswer, caseOf, PassedExactly, PassedMeans, PassedExactlyUnder, PassedMeansUnder};
+ghost use Rattle.checker.specs.Steps.{Counted, Rest, WalkRest, stepAs, noneLeft, RoomFor, GoesOn};
 ghost use Rattle.classes.specs.Maps.{ClassMap};
 ghost use Rattle.marks.specs.Marks.{Room, Marks, markAt};
 ghost use Rattle.checker.specs.Terms.{allows, allowsClasses, latestBetween};
+use clique::Found;
 use path::Split;
 use sheet::Condition;
 use sheet::Header;
@@ -30,10 +36,15 @@ use sheet::Verdict;
 use store::NodeNumber;
 use store::NodeRecord;
 
-// The numbers of the longest path, and the levels under its splits and above them all.
+// The numbers of the longest path, and the levels under its splits and above them all: without a limit,
 const PATH_LENGTH: usize = path::SPLIT_LENGTH * MOST_SPLITS;
 
 const LEVELS_LENGTH: usize = MOST_SPLITS + 1;
+
+// and with one.
+const LIMITED_PATH_LENGTH: usize = path::SPLIT_LENGTH * LIMITED_MOST_SPLITS;
+
+const LIMITED_LEVELS_LENGTH: usize = LIMITED_MOST_SPLITS + 1;
 
 // The checker's answer.
 pub enum CheckAnswer {
@@ -55,8 +66,20 @@ pub struct Position {
     pub depth: usize,
 }
 
-// The most splits above a record.
+// The most splits above a record, without a limit and with one.
 const MOST_SPLITS: usize = 1024;
+
+const LIMITED_MOST_SPLITS: usize = 8256;
+
+// The most splits above a record, by the limit.
+fn most_splits(limit: u16) -> usize
+    ensures { λ r. ⌜ r ≡ mostSplits (limitOf limit) ⌝ }
+{
+    if limit == 0 {
+        return MOST_SPLITS;
+    }
+    LIMITED_MOST_SPLITS
+}
 
 // The table of the path: the classes of each pair that it sets apart are marked, and no others.
 fn stamp(table: &mut [u8], path: &[u32], depth: usize, lots: &[u8])
@@ -227,11 +250,13 @@ fn split_step(
     maps: &mut [u8],
     levels: &mut [u8],
     n: u16,
+    limit: u16,
     split: Split,
 ) -> Step
-    requires { ⌜ Walkable (now path) (now maps) (now levels) depth × (n ≤ mostLots) ⌝ }
+    requires { ⌜ Walkable (now path) (now maps) (now levels) depth × RoomFor (mostSplits (limitOf limit)) (now path) (now levels) × (n ≤ mostLots) ⌝ }
     ensures walk { λ v. ⌜ ((s : List ℕ) → n ≡ lotCount s → (walkRest : WalkRest) (rest : Rest)
-        → walkRecord lowestLot s walkRest rest (split .number .0) (pathOf (now (path .entry)) depth) (splitRecord (split .a .0) (split .b .0) (split .next .0))
+        → walkRecord (limitOf limit) lowestLot s walkRest rest (split .number .0) (pathOf (now (path .entry)) depth)
+        (splitRecord (split .a .0) (split .b .0) (split .next .0))
         ≡ stepAs walkRest (split .number .0 + 1) (now (path .exit)) v) ⌝ }
     ensures path { λ v. ⌜ GoesOn (now (path .exit)) (now (maps .exit)) (now (levels .exit)) v ⌝ }
 {
@@ -241,7 +266,7 @@ fn split_step(
     if !sheet::in_lots(n, split.b) {
         return Step::Refuses(11, split.number.0);
     }
-    if MOST_SPLITS <= depth {
+    if most_splits(limit) <= depth {
         return Step::Refuses(15, split.number.0);
     }
     Step::On(levels::push(path, depth, maps, levels, split))
@@ -259,8 +284,8 @@ fn ground_step(
     c: Condition,
 ) -> Step
     requires { ⌜ HasConditions (now sheet) m × Walkable (now path) (now maps) (now levels) (at .depth) × (at .number ≤ mostNodes) × Room (now table) 0 ⌝ }
-    ensures walk { λ v. ⌜ ((walkRest : WalkRest) (rest : Rest) → at .last ≡ noneLeft rest
-        → walkRecord lowestLot (now (sheet .entry)) walkRest rest (at .number) (pathOf (now (path .entry)) (at .depth)) (groundRecord (c .0))
+    ensures walk { λ v. ⌜ ((limit : Limit) (walkRest : WalkRest) (rest : Rest) → at .last ≡ noneLeft rest
+        → walkRecord limit lowestLot (now (sheet .entry)) walkRest rest (at .number) (pathOf (now (path .entry)) (at .depth)) (groundRecord (c .0))
         ≡ stepAs walkRest (at .number + 1) (now (path .exit)) v) ⌝ }
     ensures path { λ v. ⌜ GoesOn (now (path .exit)) (now (maps .entry)) (now (levels .exit)) v ⌝ }
 {
@@ -273,10 +298,64 @@ fn ground_step(
     after_ground(path, levels, at)
 }
 
+// Whether more classes than the limit are left under the path, of lots 0 to n, and those with the smallest lots, one more than the limit, are marked apart
+// pairwise. The marks go into the table first: it costs the path's splits and, for each of these classes, the lots up to the last of them, not the product of
+// splits and pairs.
+fn clique_passes(
+    n: u16,
+    limit: u16,
+    path: &[u32],
+    depth: usize,
+    maps: &[u8],
+    levels: &[u8],
+    table: &mut [u8],
+) -> bool
+    requires { ⌜ (n ≤ mostLots) × Walkable (now path) (now maps) (now levels) depth × Room (now table) 0 ⌝ }
+    ensures passes { λ r. ⌜ r ≡ cliquePasses limit n (decisionsOf (pathOf (now (path .entry)) depth)) ⌝ }
+{
+    let lots = levels::top(maps, levels, depth);
+    let first = clique::first_classes(lots, n, limit);
+    if first.count <= limit as usize {
+        return false;
+    }
+    stamp(table, path, depth, lots);
+    let found = clique::first_open(lots, table, 0, 0, 1, first.end);
+    match found {
+        Found::Open(_, _) => false,
+        Found::Clique => true,
+    }
+}
+
+// A clique: none without a limit, and with one the classes left under the path, and what follows as after a ground.
+fn clique_step(
+    n: u16,
+    limit: u16,
+    path: &mut [u32],
+    maps: &[u8],
+    levels: &mut [u8],
+    table: &mut [u8],
+    at: Position,
+) -> Step
+    requires { ⌜ (n ≤ mostLots) × Walkable (now path) (now maps) (now levels) (at .depth) × (at .number ≤ mostNodes) × Room (now table) 0 ⌝ }
+    ensures walk { λ v. ⌜ ((walkRest : WalkRest) (rest : Rest) → at .last ≡ noneLeft rest
+        → walkClique (limitOf limit) n walkRest rest (at .number) (pathOf (now (path .entry)) (at .depth))
+        ≡ stepAs walkRest (at .number + 1) (now (path .exit)) v) ⌝ }
+    ensures path { λ v. ⌜ GoesOn (now (path .exit)) (now (maps .entry)) (now (levels .exit)) v ⌝ }
+{
+    if limit == 0 {
+        return Step::Refuses(11, at.number);
+    }
+    if !clique_passes(n, limit, path, at.depth, maps, levels, table) {
+        return Step::Refuses(12, at.number);
+    }
+    after_ground(path, levels, at)
+}
+
 // A record of the list, whichever it is.
 fn record_step(
     sheet: &[u8],
     counts: Header,
+    limit: u16,
     list: &[u8],
     path: &mut [u32],
     maps: &mut [u8],
@@ -284,9 +363,10 @@ fn record_step(
     table: &mut [u8],
     at: Position,
 ) -> Step
-    requires { ⌜ Counted (now sheet) counts × HasPlace (now list) (at .number) × Walkable (now path) (now maps) (now levels) (at .depth) × (at .number ≤ mostNodes) × Room (now table) 0 ⌝ }
+    requires { ⌜ Counted (now sheet) counts × HasPlace (now list) (at .number) × Walkable (now path) (now maps) (now levels) (at .depth)
+        × (at .number ≤ mostNodes) × Room (now table) 0 × RoomFor (mostSplits (limitOf limit)) (now path) (now levels) ⌝ }
     ensures walk { λ v. ⌜ ((walkRest : WalkRest) (rest : Rest) → at .last ≡ noneLeft rest
-        → walkRecord lowestLot (now (sheet .entry)) walkRest rest (at .number) (pathOf (now (path .entry)) (at .depth))
+        → walkRecord (limitOf limit) lowestLot (now (sheet .entry)) walkRest rest (at .number) (pathOf (now (path .entry)) (at .depth))
         (recordAt (now (list .entry)) (at .number))
         ≡ stepAs walkRest (at .number + 1) (now (path .exit)) v) ⌝ }
     ensures path { λ v. ⌜ GoesOn (now (path .exit)) (now (maps .exit)) (now (levels .exit)) v ⌝ }
@@ -296,7 +376,7 @@ fn record_step(
     match node {
         NodeRecord::Split(a, b, next) => {
             let split = Split { number, next, a, b };
-            split_step(path, at.depth, maps, levels, counts.lots, split)
+            split_step(path, at.depth, maps, levels, counts.lots, limit, split)
         }
         NodeRecord::Ground(c) => ground_step(
             sheet,
@@ -308,6 +388,7 @@ fn record_step(
             at,
             c,
         ),
+        NodeRecord::Clique => clique_step(counts.lots, limit, path, maps, levels, table, at),
         NodeRecord::Met => Step::Refuses(11, at.number),
         NodeRecord::Other => Step::Refuses(11, at.number),
     }
@@ -317,14 +398,16 @@ fn record_step(
 fn walk(
     sheet: &[u8],
     counts: Header,
+    limit: u16,
     list: &[u8],
     path: &mut [u32],
     maps: &mut [u8],
     levels: &mut [u8],
     table: &mut [u8],
 ) -> Verdict
-    requires { ⌜ Counted (now sheet) counts × (length (now list) / recordLength ≤ mostNodes) × Walkable (now path) (now maps) (now levels) 0 × Room (now table) 0 ⌝ }
-    ensures { λ v. ⌜ v ≡ walkVerdict lowestLot (now (sheet .entry)) (now (list .entry)) ⌝ }
+    requires { ⌜ Counted (now sheet) counts × (length (now list) / recordLength ≤ mostNodes) × Walkable (now path) (now maps) (now levels) 0
+        × Room (now table) 0 × RoomFor (mostSplits (limitOf limit)) (now path) (now levels) ⌝ }
+    ensures { λ v. ⌜ v ≡ walkVerdict (limitOf limit) lowestLot (now (sheet .entry)) (now (list .entry)) ⌝ }
 {
     let count = (list.len() / store::RECORD_LENGTH) as u32;
     let mut depth: usize = 0;
@@ -335,7 +418,7 @@ fn walk(
             last: r == count,
             depth,
         };
-        let step = record_step(sheet, counts, list, path, maps, levels, table, at);
+        let step = record_step(sheet, counts, limit, list, path, maps, levels, table, at);
         match step {
             Step::Passes => return Verdict::Passes,
             Step::Refuses(check, place) => return Verdict::Refuses(check, place),
@@ -348,25 +431,52 @@ fn walk(
     Verdict::Refuses(14, r)
 }
 
-// The verdict on a list, with a path, its classes and a table of its own.
-fn check_list(sheet: &[u8], counts: Header, list: &[u8]) -> Verdict
-    requires { ⌜ Counted (now sheet) counts × (length (now list) / recordLength ≤ mostNodes) ⌝ }
-    ensures { λ v. ⌜ v ≡ walkVerdict lowestLot (now (sheet .entry)) (now (list .entry)) ⌝ }
+// The verdict on a list, with the classes and a table of its own; the path's numbers and its levels are lent, with room for the most splits under the limit.
+fn check_records(
+    sheet: &[u8],
+    counts: Header,
+    limit: u16,
+    list: &[u8],
+    path: &mut [u32],
+    levels: &mut [u8],
+) -> Verdict
+    requires { ⌜ Counted (now sheet) counts × (length (now list) / recordLength ≤ mostNodes) × RoomFor (mostSplits (limitOf limit)) (now path) (now levels)
+        × (levelUnder (now levels) 0 ≡ 0) ⌝ }
+    ensures { λ v. ⌜ v ≡ walkVerdict (limitOf limit) lowestLot (now (sheet .entry)) (now (list .entry)) ⌝ }
 {
-    let mut path = [0u32; PATH_LENGTH];
     let mut maps = [0u8; levels::MAPS_LENGTH];
-    let mut levels = [0u8; LEVELS_LENGTH];
     let mut table = [0u8; marks::TABLE_LENGTH];
     levels::start(&mut maps);
     walk(
         sheet,
         counts,
+        limit,
         list,
-        &mut path,
+        path,
         &mut maps,
-        &mut levels,
+        levels,
         &mut table,
     )
+}
+
+// The verdict on a list without a limit, with a path of its own,
+fn check_list(sheet: &[u8], counts: Header, list: &[u8]) -> Verdict
+    requires { ⌜ Counted (now sheet) counts × (length (now list) / recordLength ≤ mostNodes) ⌝ }
+    ensures { λ v. ⌜ v ≡ walkVerdict unlimited lowestLot (now (sheet .entry)) (now (list .entry)) ⌝ }
+{
+    let mut path = [0u32; PATH_LENGTH];
+    let mut levels = [0u8; LEVELS_LENGTH];
+    check_records(sheet, counts, 0, list, &mut path, &mut levels)
+}
+
+// and under a limit: a longer path, in a function of its own, so that a check without a limit needs no more stack than its own path takes.
+fn check_limited_list(sheet: &[u8], counts: Header, limit: u16, list: &[u8]) -> Verdict
+    requires { ⌜ Counted (now sheet) counts × (length (now list) / recordLength ≤ mostNodes) ⌝ }
+    ensures { λ v. ⌜ v ≡ walkVerdict (limitOf limit) lowestLot (now (sheet .entry)) (now (list .entry)) ⌝ }
+{
+    let mut path = [0u32; LIMITED_PATH_LENGTH];
+    let mut levels = [0u8; LIMITED_LEVELS_LENGTH];
+    check_records(sheet, counts, limit, list, &mut path, &mut levels)
 }
 
 // Whether a list's length is none that a list of records can have.
@@ -381,6 +491,16 @@ fn ill_sized(list: &[u8]) -> bool
         return true;
     }
     store::MOST_NODES < length / store::RECORD_LENGTH
+}
+
+// The answer of a verdict.
+fn answer_of(verdict: Verdict) -> CheckAnswer
+    ensures { λ r. ⌜ r ≡ caseOf verdict ⌝ }
+{
+    match verdict {
+        Verdict::Passes => CheckAnswer::Passed,
+        Verdict::Refuses(check, place) => CheckAnswer::Refused { check, place },
+    }
 }
 
 // The refutation checker, for any bytes at all and a list from any hand: the first check that fails, or the list passes, and then nobody can meet the sheet.
@@ -408,11 +528,44 @@ pub fn check(sheet: &[u8], list: &[u8]) -> CheckAnswer
                 conditions,
                 records,
             };
-            let verdict = check_list(sheet, counts, list);
-            match verdict {
-                Verdict::Passes => CheckAnswer::Passed,
-                Verdict::Refuses(check, place) => CheckAnswer::Refused { check, place },
+            answer_of(check_list(sheet, counts, list))
+        }
+    }
+}
+
+// The refutation checker under a limit on the classes, whatever number is given for it: what passes tells that nobody can meet the sheet with at most so many
+// different numbers.
+pub fn check_limited(sheet: &[u8], limit: u32, list: &[u8]) -> CheckAnswer
+    ensures answer { λ r. ⌜ checkedAnswer r ≡ limitedCheckAnswer (now (sheet .entry)) limit (now (list .entry)) ⌝ }
+    ensures passed { λ r. ⌜ PassedExactlyUnder (upTo limit) r (now (sheet .entry)) (now (list .entry)) ⌝ }
+    ensures meaning { λ r. ⌜ PassedMeansUnder (upTo limit) r (now (sheet .entry)) ⌝ }
+{
+    let reading = sheet::read(sheet);
+    match reading {
+        Reading::Refused { check, place } => CheckAnswer::Refused { check, place },
+        Reading::Accepted {
+            lots,
+            conditions,
+            records,
+        } => {
+            if clique::ill_limited(limit) {
+                return CheckAnswer::Refused {
+                    check: 20,
+                    place: limit,
+                };
             }
+            if ill_sized(list) {
+                return CheckAnswer::Refused {
+                    check: 10,
+                    place: 0,
+                };
+            }
+            let counts = Header {
+                lots,
+                conditions,
+                records,
+            };
+            answer_of(check_limited_list(sheet, counts, limit as u16, list))
         }
     }
 }

@@ -16,7 +16,7 @@ use Rattle.equality.specs.Node.{Decisions, merged, classOf, classes, share}
 use Rattle.equality.specs.Opens.{Small}
 use Rattle.classes.specs.Joins.{joins}
 use Rattle.classes.proofs.Joins.{joins-most}
-use Rattle.refutation.specs.Refutation.{Split, mostSplits, decisionsOf, turned}
+use Rattle.refutation.specs.Refutation.{Split, decisionsOf, turned}
 use Rattle.path.specs.declared.Split as declared
 use Rattle.path.specs.Paths.{splitLength, splitIn, firstLotIn, secondLotIn, pathOf, splitOf}
 use Rattle.path.proofs.Splits.{path-length}
@@ -132,11 +132,11 @@ leveled-less path maps levels (suc depth) less le h = go (eqb less (suc depth)) 
     go false e below = let other = eqb-false less (suc depth) e in below (omega (arith, other))
 
 -- No split, and the first row.
-pub walkable-none : (path maps levels : List ℕ) → splitLength * mostSplits ≤ length path → length maps ≡ mapsLength → mostSplits < length levels
-    → levelUnder levels 0 ≡ 0 → row maps 0 ≡ classes [] → Walkable path maps levels 0
+pub walkable-none : (path maps levels : List ℕ) → length maps ≡ mapsLength → 0 < length levels → levelUnder levels 0 ≡ 0 → row maps 0 ≡ classes []
+    → Walkable path maps levels 0
 unfolding pathOf Leveled joins
-walkable-none path maps levels room rows places first row-is =
-    record { within = within-none path; deep = omega arith; room = room; rows = rows; places = places; leveled = record { level = first; classes = row-is } }
+walkable-none path maps levels rows places first row-is =
+    record { within = within-none path; rows = rows; places = places; leveled = record { level = first; classes = row-is } }
 
 module _ {path maps levels : List ℕ} {depth : ℕ} (w : Walkable path maps levels depth) where
   -- The map under the path has its classes, at a level that there is.
@@ -156,31 +156,29 @@ module _ {path maps levels : List ℕ} {depth : ℕ} (w : Walkable path maps lev
   walkable-less less le =
       record {
         within = within-less (w .within) less le;
-        deep = omega (arith, w .deep);
-        room = w .room;
         rows = w .rows;
-        places = w .places;
+        places = omega (arith, w .places);
         leveled = leveled-less path maps levels depth less le (w .leveled);
       }
 
   -- A push, by what `join` ensures of the maps and `path::push` of the path.
-  pub walkable-push : depth < mostSplits → (s : declared.Split) → s .a .0 ≤ mostLots → s .b .0 ≤ mostLots → (path′ maps′ : List ℕ) → length path′ ≡ length path
-      → length maps′ ≡ length maps → (next : ℕ)
+  pub walkable-push : splitLength * depth + splitLength ≤ length path → depth + 1 < length levels
+      → (s : declared.Split) → s .a .0 ≤ mostLots → s .b .0 ≤ mostLots
+      → (path′ maps′ : List ℕ) → length path′ ≡ length path → length maps′ ≡ length maps → (next : ℕ)
       → next
       ≡ cond (eqb (classOf (row maps (levelUnder levels depth)) (s .a .0)) (classOf (row maps (levelUnder levels depth)) (s .b .0))) (levelUnder levels depth) (levelUnder levels depth + 1)
       → row maps′ next
       ≡ merged (classOf (row maps (levelUnder levels depth)) (s .a .0)) (classOf (row maps (levelUnder levels depth)) (s .b .0)) (row maps (levelUnder levels depth))
       → ((k : ℕ) → k ≤ levelUnder levels depth → row maps′ k ≡ row maps k)
       → (r : ℕ) → r ≡ depth + 1 → pathOf path′ r ≡ splitOf s ∷ pathOf path depth → Walkable path′ maps′ (set levels (depth + 1) next) r
-  walkable-push below s ha hb path′ maps′ len len′ next next-is row-is others r more path-is =
+  walkable-push room place s ha hb path′ maps′ len len′ next next-is row-is others r more path-is =
       record {
-        within = within-push (w .within) path′ len (omega (arith, w .room)) s ha hb r more path-is;
-        deep = omega arith;
-        room = omega (arith, w .room);
+        within = within-push (w .within) path′ len room s ha hb r more path-is;
         rows = len′ ∙ w .rows;
-        places = simp length-set (w .places);
+        places = simp length-set (omega arith);
         leveled = subst (λ (above : List Split). Leveled maps′ (set levels (depth + 1) next) (decisionsOf above)) (sym path-is)
-            (leveled-same maps levels (decisions path depth) depth (decisions-length path depth) (w .leveled) (s .a .0) (s .b .0) maps′ next (omega (arith, w .places)) next-is row-is others);
+            (leveled-same maps levels (decisions path depth) depth (decisions-length path depth) (w .leveled)
+            (s .a .0) (s .b .0) maps′ next place next-is row-is others);
       }
 
   -- A turn, by what `path::turn` ensures.
@@ -192,11 +190,9 @@ module _ {path maps levels : List ℕ} {depth : ℕ} (w : Walkable path maps lev
       let at : depth - 1 + 1 ≡ depth = omega arith in
       record {
         within = within-turn (w .within) some path′ len path-is;
-        deep = w .deep;
-        room = omega (arith, w .room);
         rows = w .rows;
         places = simp length-set (w .places);
         leveled = subst (λ (above : List Split). Leveled maps (set levels depth (levelUnder levels (depth - 1))) (decisionsOf above)) (sym path-is)
             (subst (λ (k : ℕ). Leveled maps (set levels k (levelUnder levels (depth - 1))) (apart (firstLotIn path (depth - 1)) (secondLotIn path (depth - 1)) ∷ decisions path (depth - 1))) at
-            (leveled-apart maps levels (decisions path (depth - 1)) (depth - 1) (decisions-length path (depth - 1)) (above .leveled) (firstLotIn path (depth - 1)) (secondLotIn path (depth - 1)) (omega (arith, w .places, w .deep))));
+            (leveled-apart maps levels (decisions path (depth - 1)) (depth - 1) (decisions-length path (depth - 1)) (above .leveled) (firstLotIn path (depth - 1)) (secondLotIn path (depth - 1)) (omega (arith, w .places))));
       }

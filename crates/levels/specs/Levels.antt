@@ -1,14 +1,14 @@
 -- The classes under each split of a path, in lent bytes: a class map for each level, and the level under so many splits. For the contracts of the
 -- code; this file states nothing of document 01.
-use Prim.Native.Nat.{ℕ, _*_, _≤_, _<_}
+use Prim.Native.Nat.{ℕ, _*_, _<_}
 use mathlib.Core.List.{List, [], _∷_}
 use mathlib.Core.Path.{_≡_}
 use lib.ListN.{length, getD, take, drop}
 use Rattle.equality.specs.Node.{Decisions, classes}
 use Rattle.classes.specs.Maps.{entries}
 use Rattle.classes.specs.Joins.{joins}
-use Rattle.refutation.specs.Refutation.{mostSplits, decisionsOf}
-use Rattle.path.specs.Paths.{splitLength, pathOf, PathWithin}
+use Rattle.refutation.specs.Refutation.{decisionsOf}
+use Rattle.path.specs.Paths.{pathOf, PathWithin}
 
 -- A class map is a row of the maps; and as many rows as a map has entries has a path's maps, since no path joins more often than there are lots.
 abbrev pub mapsLength : ℕ
@@ -31,11 +31,9 @@ unfoldable pub Leveled : List ℕ → List ℕ → Decisions → Type 0
 Leveled maps levels [] = LevelOf maps levels []
 Leveled maps levels (d ∷ ds) = LevelOf maps levels (d ∷ ds) × Leveled maps levels ds
 
--- A path of at most so many splits as a list may have, with room for them; and its levels.
+-- A path of so many splits, and its levels.
 pub record Walkable (path maps levels : List ℕ) (depth : ℕ) : Type 0 where
   pub within : PathWithin path depth
-  pub deep : depth ≤ mostSplits
-  pub room : splitLength * mostSplits ≤ length path
   pub rows : length maps ≡ mapsLength
-  pub places : mostSplits < length levels
+  pub places : depth < length levels
   pub leveled : Leveled maps levels (decisionsOf (pathOf path depth))

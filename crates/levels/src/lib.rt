@@ -8,7 +8,7 @@ ghost use lib.Dec.{eqb};
 ghost use lib.ListN.{length};
 ghost use Rattle.sheet.specs.Format.{mostLots};
 ghost use Rattle.equality.specs.Node.{merged, classOf, classes};
-ghost use Rattle.refutation.specs.Refutation.{mostSplits, turned};
+ghost use Rattle.refutation.specs.Refutation.{turned};
 ghost use Rattle.path.specs.Paths.{splitLength, splitIn, firstLotIn, secondLotIn, pathOf, splitOf};
 ghost use Rattle.levels.specs.Levels.{mapsLength, row, levelUnder, Walkable};
 use classes::ENTRIES;
@@ -83,7 +83,8 @@ pub fn push(
     levels: &mut [u8],
     split: Split,
 ) -> usize
-    requires { ⌜ Walkable (now path) (now maps) (now levels) depth × (depth < mostSplits) × (split .a .0 ≤ mostLots) × (split .b .0 ≤ mostLots) ⌝ }
+    requires { ⌜ Walkable (now path) (now maps) (now levels) depth × (splitLength * depth + splitLength ≤ length (now path)) × (depth + 1 < length (now levels))
+        × (split .a .0 ≤ mostLots) × (split .b .0 ≤ mostLots) ⌝ }
     ensures path { λ r. ⌜ pathOf (now (path .exit)) r ≡ splitOf split ∷ pathOf (now (path .entry)) depth ⌝ }
     ensures walkable { λ r. ⌜ Walkable (now (path .exit)) (now (maps .exit)) (now (levels .exit)) r ⌝ }
 {

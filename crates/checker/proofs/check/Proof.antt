@@ -3,13 +3,12 @@ use borrow.Author.Needs.{needs}
 use Prim.Native.Nat.{ℕ}
 use mathlib.Core.Bool.{false}
 use mathlib.Core.List.{List}
-use mathlib.Core.Path.{_≡_, sym, ap, _∙_}
-use Rattle.sheet.specs.declared.Verdict.{Verdict}
-use Rattle.sheet.specs.declared.Verdict.the-variants.{Passes, Refuses}
+use mathlib.Core.Path.{_≡_, sym, ap, subst, _∙_}
+use Rattle.sheet.specs.declared.Verdict.the-variants.{Refuses}
 use Rattle.sheet.specs.Answers.{readingAnswer}
 use Rattle.sheet.proofs.Readings.{ReadAs, read-accepts, read-refuses}
-use Rattle.refutation.specs.Refutation.{listVerdict}
-use Rattle.checker.proofs.Entry.{illSized, ensured, sheet-refused, size-refused, walk-decides, few-records}
+use Rattle.limit.specs.Meaning.{unlimited}
+use Rattle.checker.proofs.Entry.{illSized, few-records, none-admitted, sheet-refused, size-refused, walk-decides, EnsuredUnlimited, ensured-unlimited}
 use Rattle.checker.proofs.check.Statement.{statement}
 use Rattle.checker.proofs.check.Tie as tie
 
@@ -33,20 +32,8 @@ abbrev read : tie.After-ill-sized → tie.After-reading2
 read c = c .before .before
 
 -- Where the list has a length that one can have, its walk decides.
-module _ (c : tie.Else1) where
-  abbrev reading : tie.After-reading2
-  reading = read (c .before)
-
-  sized : illSized (list reading) ≡ false
-  sized = sym (c .before .ill-sized .ensures) ∙ c .if1 .left
-
-abbrev ranged : tie.After-check-list → tie.Else1
-ranged c = c .before
-
-walked : (c : tie.After-check-list) (v : Verdict) → c .check-list .result ≡ v → listVerdict (s (reading (ranged c))) (list (reading (ranged c))) ≡ v
-walked c v told =
-    let r = reading (ranged c) in
-    walk-decides (s r) (list r) (accepted r .accepted) (sized (ranged c)) ∙ sym (c .check-list .ensures) ∙ told
+sized : (c : tie.Else1) → illSized (list (read (c .before))) ≡ false
+sized c = sym (c .before .ill-sized .ensures) ∙ c .if1 .left
 
 -- ---- what is asked
 
@@ -65,39 +52,33 @@ ill-sized-requires c κs = search needs
 returns : tie.Need-returns
 returns c =
     let r = read (c .before) in
-    ensured (s r) (list r) (Refuses 10 0) (size-refused (s r) (list r) (accepted r .accepted) (sym (c .before .ill-sized .ensures) ∙ c .if1 .taken))
+    ensured-unlimited (s r) (list r) (Refuses 10 0)
+    (size-refused unlimited (s r) (list r) (accepted r .accepted) none-admitted (sym (c .before .ill-sized .ensures) ∙ c .if1 .taken))
 
 check-list-requires : tie.Need-check-list-requires
 check-list-requires c κs =
-    let r = reading c in
+    let r = read (c .before) in
     let a = accepted r in
     (record { sheet = record { accepted = a .accepted; counted = a .conditions }; lots = a .lots }, few-records (list r) (sized c))
 
-enum-told : tie.Need-enum-told
-enum-told c = search needs
-
-enum-known-verdict : tie.Need-enum-known-verdict
-enum-known-verdict c = search needs
+answer-of-requires : tie.Need-answer-of-requires
+answer-of-requires c κs = search needs
 
 returns-2 : tie.Need-returns-2
 returns-2 c =
     let start = c .before .before .before .before .before .before in
     let sheet = start .args .sheet .now in
     let records = start .args .list .now in
-    ensured sheet records (Refuses _ _)
-    (sheet-refused sheet records _ _ (read-refuses sheet _ _ (ap readingAnswer (sym (c .before .reading .given .1)) ∙ c .before .before .before .read .ensures)))
+    let refused = read-refuses sheet _ _ (ap readingAnswer (sym (c .before .reading .given .1)) ∙ c .before .before .before .read .ensures) in
+    ensured-unlimited sheet records (Refuses _ _) (sheet-refused unlimited sheet records _ _ refused)
 
 returns-3 : tie.Need-returns-3
 returns-3 c =
-    let checked = c .before .before in
-    let r = reading (ranged checked) in
-    ensured (s r) (list r) Passes (walked checked _ (c .enum-told .given .1))
-
-returns-4 : tie.Need-returns-4
-returns-4 c =
-    let checked = c .before .before .before in
-    let r = reading (ranged checked) in
-    ensured (s r) (list r) (Refuses _ _) (walked checked _ (c .before .verdict .given .1))
+    let checked = c .before in
+    let else = checked .before in
+    let r = read (else .before) in
+    let decided = walk-decides unlimited (s r) (list r) (accepted r .accepted) none-admitted (sized else) ∙ sym (checked .check-list .ensures) in
+    subst (EnsuredUnlimited (s r) (list r)) (sym (c .answer-of .ensures)) (ensured-unlimited (s r) (list r) (checked .check-list .result) decided)
 
 pub check-spec : {M : Type 1} → statement M
 check-spec =
@@ -109,8 +90,6 @@ check-spec =
     ill-sized-requires
     returns
     check-list-requires
-    enum-told
-    enum-known-verdict
+    answer-of-requires
     returns-2
-    returns-3
-    returns-4)
+    returns-3)

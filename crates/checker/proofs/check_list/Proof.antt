@@ -1,48 +1,23 @@
--- `checker::check_list`: no splits, and every lot alone, to begin with.
+-- `checker::check_list`: its own path has room for the most splits without a limit.
 use borrow.Author.Needs.{needs}
 use mathlib.Core.Path.{refl}
 use native.Mathlib.Omega.{arith}
-use Rattle.levels.proofs.Leveling.{walkable-none}
 use Rattle.checker.proofs.check_list.Statement.{statement}
 use Rattle.checker.proofs.check_list.Tie as tie
 
-slice-aggregate-start : tie.Need-slice-aggregate-start
-slice-aggregate-start c = search needs
+slice-aggregate-check-records : tie.Need-slice-aggregate-check-records
+slice-aggregate-check-records c = search needs
 
-start-requires : tie.Need-start-requires
-start-requires c κs = search needs
+slice-aggregate-check-records-2 : tie.Need-slice-aggregate-check-records-2
+slice-aggregate-check-records-2 c = search needs
 
-slice-aggregate-walk : tie.Need-slice-aggregate-walk
-slice-aggregate-walk c = search needs
-
-slice-aggregate-walk-2 : tie.Need-slice-aggregate-walk-2
-slice-aggregate-walk-2 c = search needs
-
-slice-aggregate-walk-3 : tie.Need-slice-aggregate-walk-3
-slice-aggregate-walk-3 c = search needs
-
-slice-aggregate-walk-4 : tie.Need-slice-aggregate-walk-4
-slice-aggregate-walk-4 c = search needs
-
-walk-requires : tie.Need-walk-requires
-walk-requires c κs =
-    let started = c .before .before .before .before .before in
-    let start = started .before .before .before .before in
-    let rows = started .start in
-    (start .pre .0, start .pre .1, walkable-none _ _ _ (omega arith) (rows .kept .0) (omega arith) refl (rows .ensures), omega arith)
+check-records-requires : tie.Need-check-records-requires
+check-records-requires c κs =
+    let start = c .before .before .before .before in
+    (start .pre .0, start .pre .1, record { splits = omega arith; places = omega arith }, refl)
 
 returns : tie.Need-returns
 returns c = search needs
 
 pub check-list-spec : {M : Type 1} → statement M
-check-list-spec =
-    tie.close
-    (tie.spec
-    slice-aggregate-start
-    start-requires
-    slice-aggregate-walk
-    slice-aggregate-walk-2
-    slice-aggregate-walk-3
-    slice-aggregate-walk-4
-    walk-requires
-    returns)
+check-list-spec = tie.close (tie.spec slice-aggregate-check-records slice-aggregate-check-records-2 check-records-requires returns)

@@ -56,7 +56,7 @@ abbrev outset : tie.After-past-false → tie.Start
 outset c = begun (mapped c)
 
 top-requires : tie.Need-top-requires
-top-requires c κs = let w = c .before .before .before .before .before .pre .3 in (w .rows, omega (arith, w .places, w .deep), top-level w)
+top-requires c κs = let w = c .before .before .before .before .before .pre .3 in (w .rows, w .places, top-level w)
 
 -- The map at the path's level has its classes.
 map-is : (c : tie.After-top) → c .top .result .now ≡ classes (ds (begun c))

@@ -55,7 +55,7 @@ returns c =
     (λ w. condition-none (s start) (named start) (w .taken))
     (λ w. condition-above (s start) (named start) (omega (arith, ltb-true (start .args .m) (named start) (w .2 .taken), start .pre .0 .counted)))
     (c .if1 .came) in
-    ((λ walkRest rest left. condition-out (s start) walkRest rest (r start) (above start) (named start) out), tt)
+    ((λ limit walkRest rest left. condition-out limit (s start) walkRest rest (r start) (above start) (named start) out), tt)
 
 ground-passes-requires : tie.Need-ground-passes-requires
 ground-passes-requires c κs =
@@ -77,8 +77,8 @@ returns-2 c =
     let tested = c .before .before .before in
     let else = ranged tested in
     let start = begun else in (
-      (λ walkRest rest left.
-          not-ground (s start) walkRest rest (r start) (above start) (named start) (within else)
+      (λ limit walkRest rest left.
+          not-ground limit (s start) walkRest rest (r start) (above start) (named start) (within else)
           (not-false _ (sym (tested .ground-passes .ensures) ∙ not-true _ (c .if3 .taken)))),
       tt,
     )
@@ -87,7 +87,7 @@ after-ground-requires : tie.Need-after-ground-requires
 after-ground-requires c κs =
     let start = begun (ranged (c .before .before .before .before .before)) in
     let w = start .pre .1 in
-    (w .within .within, omega (arith, w .deep, w .places), start .pre .2)
+    (w .within .within, w .places, start .pre .2)
 
 same-length-4 : tie.Need-same-length-4
 same-length-4 c = search needs
@@ -105,8 +105,8 @@ returns-3 c =
     let tested = passed .before .before .before in
     let else = ranged tested in
     let start = begun else in (
-      (λ walkRest rest left.
-          grounded (s start) walkRest rest (r start) (above start) (named start) (within else)
+      (λ limit walkRest rest left.
+          grounded limit (s start) walkRest rest (r start) (above start) (named start) (within else)
           (not-true _ (sym (tested .ground-passes .ensures) ∙ not-false _ (passed .if3 .left)))
           ∙ after .after-ground .ensures .0 walkRest rest left),
       after .after-ground .ensures .1 (start .args .maps .now) (start .pre .1),

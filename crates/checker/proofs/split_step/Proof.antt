@@ -1,7 +1,7 @@
 -- `checker::split_step`: lots out of range, too many splits above, or the split on top.
 use borrow.Author.Needs.{needs}
 use borrow.Author.Tests.{not-true, not-false}
-use Prim.Native.Nat.{ℕ, _≤_}
+use Prim.Native.Nat.{ℕ, _≤_, _<_}
 use mathlib.Core.Bool.{true}
 use mathlib.Core.List.{List}
 use mathlib.Core.Path.{_≡_, sym, ap, _∙_}
@@ -9,7 +9,10 @@ use native.Mathlib.Omega.{arith}
 use Rattle.sheet.specs.Format.{lowestLot, mostLots, lotCount}
 use Rattle.sheet.specs.Checks.{lotInRange}
 use Rattle.sheet.proofs.Accepted.{lot-in}
+use Rattle.limit.specs.Meaning.{Limit}
+use Rattle.limit.specs.Scan.{limitOf}
 use Rattle.refutation.specs.Refutation as refutation
+use Rattle.refutation.specs.Refutation.{mostSplits}
 use Rattle.path.specs.Paths.{pathOf}
 use Rattle.path.proofs.Splits.{path-length}
 use Rattle.checker.proofs.Stepping.{first-out, second-out, too-deep, pushed}
@@ -21,6 +24,9 @@ use Rattle.checker.proofs.split_step.Tie as tie
 module _ (start : tie.Start) where
   abbrev above : List refutation.Split
   above = pathOf (start .args .path .now) (start .args .depth)
+
+  abbrev limit : Limit
+  limit = limitOf (start .args .limit)
 
   abbrev r : ℕ
   r = start .args .split .number .0
@@ -40,7 +46,7 @@ module _ (start : tie.Start) where
 
   -- A lot in range has an entry in a map.
   entry : (lot : ℕ) → lotInRange lowestLot (start .args .n) lot ≡ true → lot ≤ mostLots
-  entry lot e = omega (arith, start .pre .1, lot-in (start .args .n) lot .0 e .high)
+  entry lot e = omega (arith, start .pre .2, lot-in (start .args .n) lot .0 e .high)
 
 abbrev begun : tie.Else1 → tie.Start
 begun c = c .before .before .before .before .before
@@ -55,6 +61,10 @@ one c = c .before .before
 second : (c : tie.Else2) → lotInRange lowestLot (begun (one c) .args .n) (b (begun (one c))) ≡ true
 second c = sym (c .before .in-lots2 .ensures) ∙ not-false _ (c .if2 .left)
 
+-- Fewer splits stand above than may.
+shallow : (c : tie.Else3) → begun (one (c .before .before)) .args .depth < mostSplits (limit (begun (one (c .before .before))))
+shallow c = omega (arith, c .before .most-splits .ensures, c .if3 .left)
+
 -- ---- what is asked
 
 in-lots-requires : tie.Need-in-lots-requires
@@ -64,7 +74,7 @@ returns : tie.Need-returns
 returns c =
     let start = c .before .before .before .before .before in (
       (λ s lots walkRest rest.
-          first-out s walkRest rest (r start) (above start) (a start) (b start) (next start)
+          first-out (limit start) s walkRest rest (r start) (above start) (a start) (b start) (next start)
           (by-sheet start s lots (a start) ∙ sym (c .before .in-lots .ensures) ∙ not-true _ (c .if1 .taken))),
       tt,
     )
@@ -77,28 +87,38 @@ returns-2 c =
     let else = c .before .before in
     let start = begun else in (
       (λ s lots walkRest rest.
-          second-out s walkRest rest (r start) (above start) (a start) (b start) (next start)
+          second-out (limit start) s walkRest rest (r start) (above start) (a start) (b start) (next start)
           (by-sheet start s lots (a start) ∙ first else) (by-sheet start s lots (b start) ∙ sym (c .before .in-lots2 .ensures) ∙ not-true _ (c .if2 .taken))),
       tt,
     )
 
+most-splits-requires : tie.Need-most-splits-requires
+most-splits-requires c κs = search needs
+
 returns-3 : tie.Need-returns-3
 returns-3 c =
-    let else = c .before in
+    let else = c .before .before in
     let start = begun (one else) in (
       (λ s lots walkRest rest.
-          too-deep s walkRest rest (r start) (above start) (a start) (b start) (next start)
+          too-deep (limit start) s walkRest rest (r start) (above start) (a start) (b start) (next start)
           (by-sheet start s lots (a start) ∙ first (one else)) (by-sheet start s lots (b start) ∙ second else)
-          (rw (path-length (start .args .path .now) (start .args .depth)) (c .if3 .taken))),
+          (rw (path-length (start .args .path .now) (start .args .depth)) (omega (arith, c .before .most-splits .ensures, c .if3 .taken)))),
       tt,
     )
 
 push-requires : tie.Need-push-requires
 push-requires c κs =
     let deep = c .before .before .before in
-    let else = deep .before in
+    let else = deep .before .before in
     let start = begun (one else) in
-    (start .pre .0, omega (arith, deep .if3 .left), entry start (a start) (first (one else)), entry start (b start) (second else))
+    let room = start .pre .1 in
+    let below = shallow deep in (
+      start .pre .0,
+      omega (arith, below, room .splits),
+      omega (arith, below, room .places),
+      entry start (a start) (first (one else)),
+      entry start (b start) (second else),
+    )
 
 same-length : tie.Need-same-length
 same-length c = search needs
@@ -113,12 +133,12 @@ returns-4 : tie.Need-returns-4
 returns-4 c =
     let push = c .before .before .before .before .before .before in
     let deep = push .before .before .before .before in
-    let else = deep .before in
+    let else = deep .before .before in
     let start = begun (one else) in (
       (λ s lots walkRest rest.
-          pushed s walkRest rest (r start) (above start) (a start) (b start) (next start)
+          pushed (limit start) s walkRest rest (r start) (above start) (a start) (b start) (next start)
           (by-sheet start s lots (a start) ∙ first (one else)) (by-sheet start s lots (b start) ∙ second else)
-          (rw (path-length (start .args .path .now) (start .args .depth)) (omega (arith, deep .if3 .left)))
+          (rw (path-length (start .args .path .now) (start .args .depth)) (shallow deep))
           _ (push .push .ensures .0)),
       push .push .ensures .1,
     )
@@ -131,6 +151,7 @@ split-step-spec =
     returns
     in-lots-requires-2
     returns-2
+    most-splits-requires
     returns-3
     push-requires
     same-length

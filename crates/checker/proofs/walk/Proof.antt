@@ -7,6 +7,8 @@ use mathlib.Core.Path.{_≡_, refl, sym, ap, subst, _∙_}
 use native.Mathlib.Omega.{arith}
 use lib.ListN.{length, drop}
 use Rattle.sheet.specs.Format.{lowestLot}
+use Rattle.limit.specs.Meaning.{Limit}
+use Rattle.limit.specs.Scan.{limitOf}
 use Rattle.store.specs.Records.{recordLength, recordsOf}
 use Rattle.refutation.specs.Refutation.{walkFrom, walkVerdict}
 use Rattle.levels.specs.Levels.{Walkable}
@@ -17,17 +19,17 @@ use Rattle.checker.proofs.walk.Statement.{statement}
 use Rattle.checker.proofs.walk.Tie as tie
 
 abbrev Inv-loop : tie.InvT-loop
-Inv-loop sheet counts list path₀ maps₀ levels₀ table₀ count depth₀ r₀ path maps levels table depth r =
+Inv-loop sheet counts limit list path₀ maps₀ levels₀ table₀ count depth₀ r₀ path maps levels table depth r =
     (1 ≤ r)
     × (r ≤ count + 1)
-    × Walking sheet list path depth r
+    × Walking (limitOf limit) sheet list path depth r
     × Walkable path maps levels depth
     × (length table ≡ length table₀)
     × (length path ≡ length path₀)
     × (length levels ≡ length levels₀)
 
 abbrev μ-loop : tie.MeasureT-loop
-μ-loop sheet counts list path₀ maps₀ levels₀ table₀ count depth₀ r₀ path maps levels table depth r = count + 1 - r
+μ-loop sheet counts limit list path₀ maps₀ levels₀ table₀ count depth₀ r₀ path maps levels table depth r = count + 1 - r
 
 cast-count : tie.Need-cast-count Inv-loop μ-loop
 cast-count c = search needs
@@ -35,13 +37,17 @@ cast-count c = search needs
 loop-holds : tie.Need-loop-holds Inv-loop μ-loop
 loop-holds c =
     let start = c .before .before .before .before .before .before in
-    (omega arith, omega arith, walking-start (start .args .sheet .now) (start .args .list .now) (start .args .path .now), start .pre .2, refl, refl, refl)
+    let starts = walking-start (limitOf (start .args .limit)) (start .args .sheet .now) (start .args .list .now) (start .args .path .now) in
+    (omega arith, omega arith, starts, start .pre .2, refl, refl, refl)
 
 -- ---- a turn
 
 module _ (c : tie.In-loop Inv-loop μ-loop) where
   abbrev begun : tie.Start Inv-loop μ-loop
   begun = c .before .before .before .before .before .before .before .before
+
+  abbrev limit : Limit
+  limit = limitOf (begun .args .limit)
 
   abbrev s : List ℕ
   s = begun .args .sheet .now
@@ -61,7 +67,14 @@ record-step-requires c κs =
     let turn = c .before .before .before .before in
     let start = begun turn in
     let inv = turn .before .loop .inv in
-    (start .pre .0, record { least = inv .0; whole = omega (arith, numbered turn) }, inv .3, omega (arith, numbered turn, start .pre .1), omega (arith, inv .4, start .pre .3))
+    let room = start .pre .4 in (
+      start .pre .0,
+      record { least = inv .0; whole = omega (arith, numbered turn) },
+      inv .3,
+      omega (arith, numbered turn, start .pre .1),
+      omega (arith, inv .4, start .pre .3),
+      record { splits = omega (arith, inv .5, room .splits); places = omega (arith, inv .6, room .places) },
+    )
 
 -- The turn in which a step was made, and what the step leaves: the path, the maps and the levels.
 module _ (c : tie.After-record-step Inv-loop μ-loop) where
@@ -69,21 +82,23 @@ module _ (c : tie.After-record-step Inv-loop μ-loop) where
   turn = c .before .before .before .before .before
 
   abbrev path : List ℕ
-  path = c .record-step .last .1 .1 .1 .0
+  path = c .record-step .last .1 .1 .1 .1 .0
 
   abbrev maps : List ℕ
-  maps = c .record-step .last .1 .1 .1 .1 .0
+  maps = c .record-step .last .1 .1 .1 .1 .1 .0
 
   abbrev levels : List ℕ
-  levels = c .record-step .last .1 .1 .1 .1 .1 .0
+  levels = c .record-step .last .1 .1 .1 .1 .1 .1 .0
 
   -- What the step comes to is what the walk does.
   stepped : (v : Step) → c .record-step .result ≡ v
-      → walkVerdict lowestLot (s turn) (list turn) ≡ stepAs (walkFrom lowestLot (s turn) (drop (r turn) (recordsOf (list turn)))) (r turn + 1) path v
+      → walkVerdict (limit turn) lowestLot (s turn) (list turn)
+      ≡ stepAs (walkFrom (limit turn) lowestLot (s turn) (drop (r turn) (recordsOf (list turn)))) (r turn + 1) path v
   stepped v told =
       let l = turn .before .loop in
-      walking-step (s turn) (list turn) (l .path) path (l .depth) (l .r) (l .inv .2) (l .inv .0) (numbered turn) (c .record-step .result) (c .record-step .ensures .0)
-      ∙ ap (stepAs (walkFrom lowestLot (s turn) (drop (r turn) (recordsOf (list turn)))) (r turn + 1) path) told
+      walking-step (limit turn) (s turn) (list turn) (l .path) path (l .depth) (l .r) (l .inv .2) (l .inv .0) (numbered turn)
+      (c .record-step .result) (c .record-step .ensures .0)
+      ∙ ap (stepAs (walkFrom (limit turn) lowestLot (s turn) (drop (r turn) (recordsOf (list turn)))) (r turn + 1) path) told
 
 abbrev made : tie.After-slice-known8 Inv-loop μ-loop → tie.After-record-step Inv-loop μ-loop
 made c = c .before .before .before .before .before .before .before .before
@@ -141,11 +156,11 @@ loop-again c =
     let inv = t .before .loop .inv in (
       omega arith,
       omega (arith, numbered t),
-      walking-on (s t) (list t) (path step) (told .0 .0) (r t) (stepped step _ (told .1)),
+      walking-on (limit t) (s t) (list t) (path step) (told .0 .0) (r t) (stepped step _ (told .1)),
       subst (GoesOn (path step) (maps step) (levels step)) (told .1) (step .record-step .ensures .1),
-      step .record-step .kept .1 .1 .1 .1 .1 .1 .0 ∙ inv .4,
-      step .record-step .kept .1 .1 .1 .0 ∙ inv .5,
-      step .record-step .kept .1 .1 .1 .1 .1 .0 ∙ inv .6,
+      step .record-step .kept .1 .1 .1 .1 .1 .1 .1 .0 ∙ inv .4,
+      step .record-step .kept .1 .1 .1 .1 .0 ∙ inv .5,
+      step .record-step .kept .1 .1 .1 .1 .1 .1 .0 ∙ inv .6,
     )
 
 same-length-9 : tie.Need-same-length-9 Inv-loop μ-loop
@@ -164,7 +179,8 @@ returns-3 : tie.Need-returns-3 Inv-loop μ-loop
 returns-3 c =
     let l = c .before .loop in
     let start = c .before .before .before .before .before .before .before .before in
-    sym (walking-end (start .args .sheet .now) (start .args .list .now) (l .path) (l .depth) (l .r) (l .inv .2) (omega (arith, c)))
+    let limit = limitOf (start .args .limit) in
+    sym (walking-end limit (start .args .sheet .now) (start .args .list .now) (l .path) (l .depth) (l .r) (l .inv .2) (omega (arith, c)))
 
 pub walk-spec : {M : Type 1} → statement M
 walk-spec =

@@ -14,7 +14,7 @@ cast-level c = omega (arith, c .slice-known4 .given (c .before .before .before .
 join-requires : tie.Need-join-requires
 join-requires c κs = let start = c .before .before .before .before .before in
     let w = start .pre .0 in
-    (w .rows, top-level w, start .pre .2, start .pre .3, top-room w (start .args .split .a .0) (start .args .split .b .0) (start .pre .2) (start .pre .3))
+    (w .rows, top-level w, start .pre .3, start .pre .4, top-room w (start .args .split .a .0) (start .args .split .b .0) (start .pre .3) (start .pre .4))
 
 cast-levels : tie.Need-cast-levels
 cast-levels c = omega (arith, c .before .before .join .ensures .0, c .before .before .before .before .slice-known4 .given (c .before .before .before .before .before .before .before .before .args .depth))
@@ -43,8 +43,9 @@ returns c =
     let on-top = c .before .before .push in
     let next = c .before .before .before .before .before .before .join in (
       on-top .ensures .1,
-      walkable-push (start .pre .0) (start .pre .1) (start .args .split) (start .pre .2) (start .pre .3) (on-top .last .0) (next .last .0) (on-top .kept .0) (next .kept .0)
-          (next .result) (next .ensures .1 .0) (next .ensures .1 .1 .0) (next .ensures .1 .1 .1) (on-top .result) (on-top .ensures .0) (on-top .ensures .1),
+      walkable-push (start .pre .0) (start .pre .1) (start .pre .2) (start .args .split) (start .pre .3) (start .pre .4)
+          (on-top .last .0) (next .last .0) (on-top .kept .0) (next .kept .0) (next .result)
+          (next .ensures .1 .0) (next .ensures .1 .1 .0) (next .ensures .1 .1 .1) (on-top .result) (on-top .ensures .0) (on-top .ensures .1),
     )
 
 pub push-spec : {M : Type 1} → statement M
