@@ -1,3 +1,4 @@
 pub mod Sheets
 pub mod ZeroSheets
 pub mod Table
+pub mod LimitedTable

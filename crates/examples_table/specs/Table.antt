@@ -15,7 +15,7 @@ use Rattle.equality.specs.Evaluator.{check8, groupingVerdictWith, lowestUnmet, 
 use Rattle.store.specs.Records.{recordLength, encode, ofKind, decode, recordsOf, encodeAll}
 use Rattle.outcome.specs.Nodes.{records}
 use Rattle.outcome.specs.Outcome.{Outcome, resultOf, searchOutcome, searchOutcomeWith}
-use Rattle.refutation.specs.Refutation.{groundFails, nearest, walkFrom, check10, walkVerdict, listVerdictWith, checkAnswer, checkAnswerWith}
+use Rattle.refutation.specs.Refutation.{groundFails, nearest, walkFrom, check10, walkVerdict, listVerdictUnder, checkAnswer, checkAnswerUnder}
 use Rattle.text.specs.Lines.{digits, decimal, line}
 use Rattle.text.specs.Program.{headerLine, recordLine, recordLines, refusedLine, metLine, cannotLine, resultText, printed, printedWith}
 use Rattle.examples_table.specs.Sheets.{Row, starredRows, withdrawnRows, printedC, printedWithdrawn, sheetA, sheetB, sheetC, sheetD, sheetEmpty, sheetOneHead, sheetSameSame, sheetApartSame, sheetWithdrawn, sheetStillCannot, sheetVacantFirst, sheetTwiceFirst, sheetNotBlanked, sheetNearlyVacant, sheetVacantOnly, rowA, rowB, rowC, rowFull, rowD, rowEmpty, rowOneHead, rowSameSame, rowApartSame, rowWithdrawn, rowStillCannot, rowVacantFirst}
@@ -52,7 +52,7 @@ expected row =
 -- Every starred sheet has the outcome that document 01 gives (and document 02 where it turns), down to the last byte of both buffers; its grouping evaluates
 -- to 0, or its records pass the checker; and sheet C prints what document 01 shows.
 pub starred : (map computed starredRows ≡ map expected starredRows) × (printed sheetC ≡ printedC)
-unfolding starredRows rowA rowB rowC rowFull rowD rowEmpty rowOneHead rowSameSame rowApartSame printedC sheetA sheetB sheetC sheetD sheetEmpty sheetOneHead sheetSameSame sheetApartSame number twoBytes headAt signAt spareAt firstLotAt secondLotAt nextAt zeroBytes vacant firstRefusal lowestRefusal check1 check2 check3 check4 wellFormed check5 member walkChain walkChains walked check17And6 check7 sheetChecksWith sheetVerdictWith chain recordsFrom termsFrom countUp conditions anyTerm someTerm merged classes marked value taken groundOrSplit node isMet afterSame visitNode visit sameTerms allSameTerms searchTree nodeCount metDecisions groupingBytes check8 groupingVerdictWith lowestUnmet evaluateAnswerWith records encode ofKind decode recordsOf encodeAll resultOf searchOutcomeWith groundFails nearest walkFrom check10 walkVerdict listVerdictWith checkAnswerWith digits decimal line headerLine recordLine recordLines refusedLine metLine cannotLine resultText printedWith
+unfolding starredRows rowA rowB rowC rowFull rowD rowEmpty rowOneHead rowSameSame rowApartSame printedC sheetA sheetB sheetC sheetD sheetEmpty sheetOneHead sheetSameSame sheetApartSame number twoBytes headAt signAt spareAt firstLotAt secondLotAt nextAt zeroBytes vacant firstRefusal lowestRefusal check1 check2 check3 check4 wellFormed check5 member walkChain walkChains walked check17And6 check7 sheetChecksWith sheetVerdictWith chain recordsFrom termsFrom countUp conditions anyTerm someTerm merged classes marked value taken groundOrSplit node isMet afterSame visitNode visit sameTerms allSameTerms searchTree nodeCount metDecisions groupingBytes check8 groupingVerdictWith lowestUnmet evaluateAnswerWith records encode ofKind decode recordsOf encodeAll resultOf searchOutcomeWith groundFails nearest walkFrom check10 walkVerdict listVerdictUnder checkAnswerUnder digits decimal line headerLine recordLine recordLines refusedLine metLine cannotLine resultText printedWith
 starred = (refl, refl)
 
 -- Likewise with withdrawn conditions and vacant records. The reader counts vacant records in k, refuses by 17 or by 6 as the walk along the chains comes to
@@ -64,7 +64,7 @@ pub withdrawn :
     ≡ answered 3 3 3 ∷ answered 1 0 1 ∷ refused 17 3 ∷ refused 6 1 ∷ refused 7 1 ∷ refused 5 1 ∷ [])
     × (checkAnswer sheetWithdrawn (2 ∷ 0 ∷ 1 ∷ 0 ∷ 0 ∷ 0 ∷ 0 ∷ 0 ∷ []) ≡ refused 12 1)
     × (printed sheetWithdrawn ≡ printedWithdrawn)
-unfolding withdrawnRows rowWithdrawn rowStillCannot rowVacantFirst printedWithdrawn sheetWithdrawn sheetStillCannot sheetVacantFirst sheetTwiceFirst sheetNotBlanked sheetNearlyVacant sheetVacantOnly readAnswerWith number twoBytes headAt signAt spareAt firstLotAt secondLotAt nextAt zeroBytes vacant firstRefusal lowestRefusal check1 check2 check3 check4 wellFormed check5 member walkChain walkChains walked check17And6 check7 sheetChecksWith sheetVerdictWith chain recordsFrom termsFrom countUp conditions anyTerm someTerm merged classes marked value taken groundOrSplit node isMet afterSame visitNode visit sameTerms allSameTerms searchTree nodeCount metDecisions groupingBytes check8 groupingVerdictWith lowestUnmet evaluateAnswerWith records encode ofKind decode recordsOf encodeAll resultOf searchOutcomeWith groundFails nearest walkFrom check10 walkVerdict listVerdictWith checkAnswerWith digits decimal line headerLine recordLine recordLines refusedLine metLine cannotLine resultText printedWith
+unfolding withdrawnRows rowWithdrawn rowStillCannot rowVacantFirst printedWithdrawn sheetWithdrawn sheetStillCannot sheetVacantFirst sheetTwiceFirst sheetNotBlanked sheetNearlyVacant sheetVacantOnly readAnswerWith number twoBytes headAt signAt spareAt firstLotAt secondLotAt nextAt zeroBytes vacant firstRefusal lowestRefusal check1 check2 check3 check4 wellFormed check5 member walkChain walkChains walked check17And6 check7 sheetChecksWith sheetVerdictWith chain recordsFrom termsFrom countUp conditions anyTerm someTerm merged classes marked value taken groundOrSplit node isMet afterSame visitNode visit sameTerms allSameTerms searchTree nodeCount metDecisions groupingBytes check8 groupingVerdictWith lowestUnmet evaluateAnswerWith records encode ofKind decode recordsOf encodeAll resultOf searchOutcomeWith groundFails nearest walkFrom check10 walkVerdict listVerdictUnder checkAnswerUnder digits decimal line headerLine recordLine recordLines refusedLine metLine cannotLine resultText printedWith
 withdrawn = (refl, refl, refl, refl)
 
 -- Likewise with lot 0: it is admitted in both fields of a term and of a split, and a ground's condition 0 isn't; the record of "same 0 0" is vacant but for its
@@ -81,10 +81,10 @@ pub zero-lot :
     × (map (evaluateAnswer zeroMet) ((0 ∷ 2 ∷ []) ∷ (0 ∷ 7 ∷ 0 ∷ []) ∷ (2 ∷ 2 ∷ []) ∷ (7 ∷ 0 ∷ []) ∷ (0 ∷ 0 ∷ []) ∷ [])
     ≡ answered 0 0 0 ∷ answered 0 0 0 ∷ answered 1 0 0 ∷ answered 3 0 0 ∷ answered 2 0 0 ∷ [])
     × (printed zeroMet ≡ printedZero)
-unfolding zeroRows rowZeroSame rowZeroApart rowZeroBoth rowZeroMet printedZero zeroSame zeroApart zeroBoth zeroMet readAnswerWith number twoBytes headAt signAt spareAt firstLotAt secondLotAt nextAt zeroBytes vacant firstRefusal lowestRefusal check1 check2 check3 check4 wellFormed check5 member walkChain walkChains walked check17And6 check7 sheetChecksWith sheetVerdictWith chain recordsFrom termsFrom countUp conditions anyTerm someTerm merged classes marked value taken groundOrSplit node isMet afterSame visitNode visit sameTerms allSameTerms searchTree nodeCount metDecisions groupingBytes check8 groupingVerdictWith lowestUnmet evaluateAnswerWith records encode ofKind decode recordsOf encodeAll resultOf searchOutcomeWith groundFails nearest walkFrom check10 walkVerdict listVerdictWith checkAnswerWith digits decimal line headerLine recordLine recordLines refusedLine metLine cannotLine resultText printedWith
+unfolding zeroRows rowZeroSame rowZeroApart rowZeroBoth rowZeroMet printedZero zeroSame zeroApart zeroBoth zeroMet readAnswerWith number twoBytes headAt signAt spareAt firstLotAt secondLotAt nextAt zeroBytes vacant firstRefusal lowestRefusal check1 check2 check3 check4 wellFormed check5 member walkChain walkChains walked check17And6 check7 sheetChecksWith sheetVerdictWith chain recordsFrom termsFrom countUp conditions anyTerm someTerm merged classes marked value taken groundOrSplit node isMet afterSame visitNode visit sameTerms allSameTerms searchTree nodeCount metDecisions groupingBytes check8 groupingVerdictWith lowestUnmet evaluateAnswerWith records encode ofKind decode recordsOf encodeAll resultOf searchOutcomeWith groundFails nearest walkFrom check10 walkVerdict listVerdictUnder checkAnswerUnder digits decimal line headerLine recordLine recordLines refusedLine metLine cannotLine resultText printedWith
 zero-lot = (refl, refl, refl, refl, refl)
 
 -- And 128 lots that are joined to lot 0 one after the other, from above and from below.
 pub zero-chained : map computed chainedRows ≡ map expected chainedRows
-unfolding flatten chainedRows rowChained number twoBytes headAt signAt spareAt firstLotAt secondLotAt nextAt zeroBytes vacant firstRefusal lowestRefusal check1 check2 check3 check4 wellFormed check5 member walkChain walkChains walked check17And6 check7 sheetChecksWith sheetVerdictWith chain recordsFrom termsFrom countUp conditions anyTerm someTerm merged classes marked value taken groundOrSplit node isMet afterSame visitNode visit sameTerms allSameTerms searchTree nodeCount metDecisions groupingBytes check8 groupingVerdictWith lowestUnmet evaluateAnswerWith records encode ofKind decode recordsOf encodeAll resultOf searchOutcomeWith groundFails nearest walkFrom check10 walkVerdict listVerdictWith checkAnswerWith digits decimal line headerLine recordLine recordLines refusedLine metLine cannotLine resultText printedWith
+unfolding flatten chainedRows rowChained number twoBytes headAt signAt spareAt firstLotAt secondLotAt nextAt zeroBytes vacant firstRefusal lowestRefusal check1 check2 check3 check4 wellFormed check5 member walkChain walkChains walked check17And6 check7 sheetChecksWith sheetVerdictWith chain recordsFrom termsFrom countUp conditions anyTerm someTerm merged classes marked value taken groundOrSplit node isMet afterSame visitNode visit sameTerms allSameTerms searchTree nodeCount metDecisions groupingBytes check8 groupingVerdictWith lowestUnmet evaluateAnswerWith records encode ofKind decode recordsOf encodeAll resultOf searchOutcomeWith groundFails nearest walkFrom check10 walkVerdict listVerdictUnder checkAnswerUnder digits decimal line headerLine recordLine recordLines refusedLine metLine cannotLine resultText printedWith
 zero-chained = refl

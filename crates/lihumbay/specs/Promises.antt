@@ -5,16 +5,19 @@ use mathlib.Core.Logic.{_↔_}
 use mathlib.Core.Path.{_≡_}
 use lib.ListN.{take}
 use Rattle.sheet.specs.declared.Verdict.the-variants.{Passes}
+use Rattle.sheet.specs.Format.{lotCount}
 use Rattle.sheet.specs.Checks.{Accepted}
 use Rattle.sheet.specs.Conditions.{conditions}
 use Rattle.sheet.specs.Answers.{answered}
 use Rattle.equality.specs.Meaning.{Meets, CanBeMet, CannotBeMet}
 use Rattle.equality.specs.Search.{searchTree, nodeCount, branching}
 use Rattle.equality.specs.Evaluator.{groupingVerdict, GroupingMeets}
+use Rattle.limit.specs.Meaning.{Limit, Keeps, CanBeMetUnder, CannotBeMetUnder}
 use Rattle.evaluator.specs.Answers.{Evaluated}
 use Rattle.store.specs.Records.{recordLength, capacity}
 use Rattle.outcome.specs.Outcome.{ZeroGroup}
-use Rattle.refutation.specs.Refutation.{Refutes}
+use Rattle.outcome.specs.Limited.{treeOf, verdictUnder, GroupingMeetsUnder, ZeroGroupUnder}
+use Rattle.refutation.specs.Refutation.{Refutes, RefutesUnder}
 use Rattle.lihumbay.specs.declared.Numbers.{Numbers}
 
 -- Of the reader: no check refuses exactly when the sheet is accepted.
@@ -64,6 +67,46 @@ ZeroPassed r s list = r .check ≡ 0 ↔ Refutes s list
 -- and then nobody can meet the sheet, whichever number they give lot 0, whatever the list and from whichever hand.
 abbrev pub ZeroMeans : Numbers → List ℕ → Type 0
 ZeroMeans r s = r .check ≡ 0 → (f : ℕ → ℕ) → ¬ Meets f s
+
+-- ---- under a limit on the classes
+
+-- Store full exactly when no earlier check refuses and the search visits more nodes than the store holds records.
+abbrev pub NineExactlyUnder : Limit → Numbers → List ℕ → List ℕ → List ℕ → Type 0
+NineExactlyUnder limit r s grouping store = r .check ≡ 9 ↔ (verdictUnder limit s grouping ≡ Passes) × (capacity store < nodeCount (treeOf limit s))
+
+-- Of a search that was not refused: 1 exactly when somebody could give the lots whole numbers that meet every condition and keep the limit, 0 to lot 0,
+abbrev pub OneExactlyUnder : Limit → Numbers → List ℕ → Type 0
+OneExactlyUnder limit r s = r .check ≡ 0 → (r .first ≡ 1 ↔ CanBeMetUnder limit s)
+
+-- and then the grouping as it is at exit does,
+abbrev pub OneMeetsUnder : Limit → Numbers → List ℕ → List ℕ → Type 0
+OneMeetsUnder limit r s grouping′ = r .check ≡ 0 → r .first ≡ 1 → GroupingMeetsUnder limit grouping′ s
+
+-- and a lot's number there is 0 exactly when the lot is in lot 0's class;
+abbrev pub OneZeroUnder : Limit → Numbers → List ℕ → List ℕ → Type 0
+OneZeroUnder limit r s grouping′ = r .check ≡ 0 → r .first ≡ 1 → ZeroGroupUnder limit s grouping′
+
+-- 2 exactly when nobody could,
+abbrev pub TwoExactlyUnder : Limit → Numbers → List ℕ → Type 0
+TwoExactlyUnder limit r s = r .check ≡ 0 → (r .first ≡ 2 ↔ CannotBeMetUnder limit s)
+
+-- whichever number they gave lot 0,
+abbrev pub TwoWhicheverUnder : Limit → Numbers → List ℕ → Type 0
+TwoWhicheverUnder limit r s = r .check ≡ 0 → r .first ≡ 2 → (f : ℕ → ℕ) → Keeps limit (lotCount s) f → ¬ Meets f s
+
+-- and then the counted records of the store as it is at exit are a refutation under the same limit.
+abbrev pub TwoRefutesUnder : Limit → Numbers → List ℕ → List ℕ → Type 0
+TwoRefutesUnder limit r s store′ = r .check ≡ 0 → r .first ≡ 2 → RefutesUnder limit s (take (recordLength * r .second) store′)
+
+-- Of the checker: no check refuses exactly when the list is a refutation under the limit,
+abbrev pub ZeroPassedUnder : Limit → Numbers → List ℕ → List ℕ → Type 0
+ZeroPassedUnder limit r s list = r .check ≡ 0 ↔ RefutesUnder limit s list
+
+-- and then nobody who keeps the limit can meet the sheet.
+abbrev pub ZeroMeansUnder : Limit → Numbers → List ℕ → Type 0
+ZeroMeansUnder limit r s = r .check ≡ 0 → (f : ℕ → ℕ) → Keeps limit (lotCount s) f → ¬ Meets f s
+
+-- ---- writers
 
 -- Of a service that writes a sheet: where no check refuses, P holds of what was written, the first bytes of the output as it is at exit.
 abbrev pub ZeroWritten : (List ℕ → Type 0) → Numbers → List ℕ → Type 0

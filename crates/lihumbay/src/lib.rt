@@ -8,8 +8,10 @@ ghost use Rattle.sheet.specs.Answers.{refused, answered, readAnswer, readingAns
 ghost use Rattle.equality.specs.Evaluator.{evaluateAnswer};
 ghost use Rattle.evaluator.specs.Answers.{evaluationAnswer};
 ghost use Rattle.outcome.specs.Outcome.{searchOutcome};
+ghost use Rattle.limit.specs.Meaning.{upTo};
 ghost use Rattle.search.specs.Answers.{searchAnswer};
-ghost use Rattle.refutation.specs.Refutation.{checkAnswer};
+ghost use Rattle.search.specs.Limited.{limitedOutcome};
+ghost use Rattle.refutation.specs.Refutation.{checkAnswer, limitedCheckAnswer};
 ghost use Rattle.checker.specs.Answers.{checkedAnswer};
 ghost use Rattle.writer.specs.Answers.{writtenAnswer};
 ghost use Rattle.repack.specs.Repack.{repacked, repackAnswer, repackOut};
@@ -20,6 +22,7 @@ ghost use Rattle.merge.specs.Answers.{mergedAnswer, sheetRefused};
 ghost use Rattle.merge.specs.Promises.{MeetsBoth, Placed};
 ghost use Rattle.lihumbay.specs.Answers.{numbersOf, mergeNumbers};
 ghost use Rattle.lihumbay.specs.Promises.{ZeroExactly, NineExactly, OneExactly, OneMeets, OneZero, TwoExactly, TwoWhichever, TwoRefutes, NodesBounded, FirstUnmet, ZeroPassed, ZeroMeans, ZeroWritten};
+ghost use Rattle.lihumbay.specs.Promises.{NineExactlyUnder, OneExactlyUnder, OneMeetsUnder, OneZeroUnder, TwoExactlyUnder, TwoWhicheverUnder, TwoRefutesUnder, ZeroPassedUnder, ZeroMeansUnder};
 use checker::CheckAnswer;
 use evaluator::Evaluation;
 use merge::MergeAnswer;
@@ -176,6 +179,38 @@ pub extern "C" fn lihumbay_check(sheet: &[u8], list: &[u8]) -> Numbers
     ensures meaning { λ r. ⌜ ZeroMeans r (now (sheet .entry)) ⌝ }
 {
     of_check(checker::check(sheet, list))
+}
+
+// The search under a limit on the classes: as the search.
+#[no_mangle]
+pub extern "C" fn lihumbay_search_limited(
+    sheet: &[u8],
+    limit: u32,
+    grouping: &mut [u8],
+    store: &mut [u8],
+) -> Numbers
+    ensures answer { λ r. ⌜ r ≡ numbersOf (limitedOutcome (now (sheet .entry)) limit (now (grouping .entry)) (now (store .entry)) .answer) ⌝ }
+    ensures grouping { λ r. ⌜ now (grouping .exit) ≡ limitedOutcome (now (sheet .entry)) limit (now (grouping .entry)) (now (store .entry)) .grouping ⌝ }
+    ensures store { λ r. ⌜ now (store .exit) ≡ limitedOutcome (now (sheet .entry)) limit (now (grouping .entry)) (now (store .entry)) .store ⌝ }
+    ensures full { λ r. ⌜ NineExactlyUnder (upTo limit) r (now (sheet .entry)) (now (grouping .entry)) (now (store .entry)) ⌝ }
+    ensures met { λ r. ⌜ OneExactlyUnder (upTo limit) r (now (sheet .entry)) ⌝ }
+    ensures meets { λ r. ⌜ OneMeetsUnder (upTo limit) r (now (sheet .entry)) (now (grouping .exit)) ⌝ }
+    ensures zero { λ r. ⌜ OneZeroUnder (upTo limit) r (now (sheet .entry)) (now (grouping .exit)) ⌝ }
+    ensures cannot { λ r. ⌜ TwoExactlyUnder (upTo limit) r (now (sheet .entry)) ⌝ }
+    ensures whichever { λ r. ⌜ TwoWhicheverUnder (upTo limit) r (now (sheet .entry)) ⌝ }
+    ensures refutes { λ r. ⌜ TwoRefutesUnder (upTo limit) r (now (sheet .entry)) (now (store .exit)) ⌝ }
+{
+    of_search(search::search_limited(sheet, limit, grouping, store))
+}
+
+// The refutation checker under a limit on the classes: as the checker.
+#[no_mangle]
+pub extern "C" fn lihumbay_check_limited(sheet: &[u8], limit: u32, list: &[u8]) -> Numbers
+    ensures answer { λ r. ⌜ r ≡ numbersOf (limitedCheckAnswer (now (sheet .entry)) limit (now (list .entry))) ⌝ }
+    ensures passed { λ r. ⌜ ZeroPassedUnder (upTo limit) r (now (sheet .entry)) (now (list .entry)) ⌝ }
+    ensures meaning { λ r. ⌜ ZeroMeansUnder (upTo limit) r (now (sheet .entry)) ⌝ }
+{
+    of_check(checker::check_limited(sheet, limit, list))
 }
 
 // Repacking: how many bytes of the output were written.

@@ -1,6 +1,7 @@
 -- `lihumbay::lihumbay_check`: the numbers of the checker's answer.
 use borrow.Author.Needs.{needs}
 use mathlib.Core.Path.{ap, _∙_}
+use Rattle.limit.specs.Meaning.{unlimited}
 use Rattle.lihumbay.specs.Answers.{numbersOf}
 use Rattle.lihumbay.proofs.Promised.{zero-passed, zero-means}
 use Rattle.lihumbay.proofs.lihumbay_check.Statement.{statement}
@@ -20,8 +21,8 @@ returns c =
     let list = start .list .now in (
       c .of-check .ensures ∙ ap numbersOf (called .ensures .0),
       (
-        rw (c .of-check .ensures) (zero-passed s list (called .result) (called .ensures .0) (called .ensures .1 .0)),
-        rw (c .of-check .ensures) (zero-means s list (called .result) (called .ensures .0) (called .ensures .1 .1)),
+        rw (c .of-check .ensures) (zero-passed unlimited s list (called .result) (called .ensures .0) (called .ensures .1 .0)),
+        rw (c .of-check .ensures) (zero-means unlimited s list _ (called .result) (called .ensures .0) (called .ensures .1 .1)),
       ),
     )
 

@@ -1,6 +1,9 @@
 -- `lihumbay::lihumbay_search`: the numbers of the search's answer, and the two buffers as it leaves them.
 use borrow.Author.Needs.{needs}
-use mathlib.Core.Path.{ap, _∙_}
+use mathlib.Core.Path.{sym, ap, _∙_}
+use Rattle.limit.specs.Meaning.{unlimited}
+use Rattle.outcome.specs.Outcome.{Outcome}
+use Rattle.outcome.proofs.Checked.{unlimited-outcome}
 use Rattle.search.specs.Answers.{searchAnswer}
 use Rattle.search.proofs.Promised.{refused-first}
 use Rattle.lihumbay.specs.Answers.{numbersOf}
@@ -27,7 +30,8 @@ returns c =
     let s = begin .sheet .now in
     let told = c .of-search .ensures in
     let a = searchAnswer (called .result) in
-    let first = refused-first s (begin .grouping .now) (begin .store .now) a (called .ensures .1 .0) in
+    let first = refused-first unlimited s (begin .grouping .now) (begin .store .now) a
+    (called .ensures .1 .0 ∙ ap (λ (o : Outcome). o .answer) (sym (unlimited-outcome s (begin .grouping .now) (begin .store .now)))) in
     let promised = called .ensures .1 .1 .1 .1 .1 in
     let cases = promised .1 .1 .1 in (
       told ∙ ap numbersOf (called .ensures .1 .0),

@@ -1,0 +1,31 @@
+-- `lihumbay::lihumbay_check_limited`: the numbers of the checker's answer.
+use borrow.Author.Needs.{needs}
+use mathlib.Core.Path.{ap, _∙_}
+use Rattle.limit.specs.Meaning.{upTo}
+use Rattle.lihumbay.specs.Answers.{numbersOf}
+use Rattle.lihumbay.proofs.Promised.{zero-passed, zero-means}
+use Rattle.lihumbay.proofs.lihumbay_check_limited.Statement.{statement}
+use Rattle.lihumbay.proofs.lihumbay_check_limited.Tie as tie
+
+check-limited-requires : tie.Need-check-limited-requires
+check-limited-requires c κs = search needs
+
+of-check-requires : tie.Need-of-check-requires
+of-check-requires c κs = search needs
+
+returns : tie.Need-returns
+returns c =
+    let called = c .before .check-limited in
+    let start = c .before .before .before .before .args in
+    let s = start .sheet .now in
+    let list = start .list .now in
+    let limit = upTo (start .limit) in (
+      c .of-check .ensures ∙ ap numbersOf (called .ensures .0),
+      (
+        rw (c .of-check .ensures) (zero-passed limit s list (called .result) (called .ensures .0) (called .ensures .1 .0)),
+        rw (c .of-check .ensures) (zero-means limit s list _ (called .result) (called .ensures .0) (called .ensures .1 .1)),
+      ),
+    )
+
+pub lihumbay-check-limited-spec : {M : Type 1} → statement M
+lihumbay-check-limited-spec = tie.close (tie.spec check-limited-requires of-check-requires returns)
