@@ -12,6 +12,8 @@ pub const MOST_CONDITIONS: usize = 256;
 pub const MOST_TERMS: usize = 1024;
 /// The most records that a store or a list can have.
 pub const MOST_RECORDS: usize = 65_535;
+/// The largest limit on the number of classes: there are no more, lot 0's and one for each other lot. The smallest limit is 1.
+pub const MOST_LIMIT: u32 = MOST_LOTS as u32 + 1;
 
 /// The bytes of a record in a store or a list.
 pub const RECORD_LENGTH: usize = 8;

@@ -1,5 +1,5 @@
 //! Refusals: which check refused, and where.
-use crate::limits::{HEADER_LENGTH, MOST_CONDITIONS, MOST_LOTS, MOST_TERMS};
+use crate::limits::{HEADER_LENGTH, MOST_CONDITIONS, MOST_LIMIT, MOST_LOTS, MOST_TERMS};
 use crate::raw::Numbers;
 use std::error::Error;
 use std::fmt;
@@ -24,6 +24,8 @@ pub enum Subject {
     Output,
     /// The sheet that two make together.
     Merged,
+    /// The limit on the number of classes.
+    Limit,
 }
 
 /// A service's refusal: the first check that failed, and its place as the table gives it. Further fields may come.
@@ -38,7 +40,7 @@ pub enum Subject {
 pub struct Refusal {
     /// The check that refused.
     pub check: Check,
-    /// Where: a condition, a record, a count or a length, as the check says; 0 where it says none.
+    /// Where: a condition, a record, a count, a length or a limit, as the check says; 0 where it says none.
     pub place: u32,
 }
 
@@ -53,6 +55,7 @@ enum Place {
     Records,
     ListRecord,
     Bytes,
+    Limit,
     Unknown,
 }
 
@@ -83,9 +86,14 @@ const TABLE: &[Row] = &[
         11,
         Subject::List,
         Place::ListRecord,
-        "a record's kind, spare byte, lot or condition is out of range, or a ground's unused field isn't 0",
+        "a record's kind, spare byte, lot or condition is out of range, or an unused field of a ground or clique isn't 0",
     ),
-    row(12, Subject::List, Place::ListRecord, "a ground's condition is withdrawn, or has a term that isn't false there"),
+    row(
+        12,
+        Subject::List,
+        Place::ListRecord,
+        "a ground's condition is withdrawn or has a term that isn't false there, or a clique has too few classes or two not apart",
+    ),
     row(13, Subject::List, Place::ListRecord, "a split's next isn't the record where its apart branch begins"),
     row(14, Subject::List, Place::ListRecord, "a record is left over, or missing"),
     row(15, Subject::List, Place::ListRecord, "too many splits stand above a split"),
@@ -93,9 +101,11 @@ const TABLE: &[Row] = &[
     row(17, Subject::Sheet, Place::TermRecord, "a vacant record is reached from a condition"),
     row(18, Subject::Merged, Place::Count, "a count of the merged sheet is above its most"),
     row(19, Subject::Output, Place::Bytes, "the output is shorter than the merged sheet"),
+    row(20, Subject::Limit, Place::Limit, "the limit on the number of classes is 0 or above 129"),
 ];
 
 const _: () = assert!(HEADER_LENGTH == 6, "check 1's sentence names the length");
+const _: () = assert!(MOST_LIMIT == 129, "check 20's sentence names the most");
 
 impl Check {
     /// The check with this number, known or not.
@@ -157,6 +167,7 @@ impl fmt::Display for Refusal {
             (Place::Lots, _) => write!(f, ": lots {place}"),
             (Place::Records, _) => write!(f, ": records {place}"),
             (Place::Bytes, _) => write!(f, ": bytes {place}"),
+            (Place::Limit, _) => write!(f, ": limit {place}"),
             (Place::Count | Place::Unknown, _) => write!(f, ": place {place}"),
         }
     }
@@ -174,7 +185,7 @@ mod tests {
 
     #[test]
     fn the_table_has_each_check_once_in_order() {
-        assert!(TABLE.iter().map(|row| row.number).eq(1..=19));
+        assert!(TABLE.iter().map(|row| row.number).eq(1..=20));
     }
 
     #[test]
@@ -189,6 +200,7 @@ mod tests {
         assert_eq!(text(18, 2), "check 18, a count of the merged sheet is above its most: conditions, at most 256");
         assert_eq!(text(18, 3), "check 18, a count of the merged sheet is above its most: terms, at most 1024");
         assert_eq!(text(19, 62), "check 19, the output is shorter than the merged sheet: bytes 62");
+        assert_eq!(text(20, 130), "check 20, the limit on the number of classes is 0 or above 129: limit 130");
     }
 
     #[test]

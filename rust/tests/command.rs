@@ -187,10 +187,12 @@ fn lists_are_refused_with_status_1() {
     refused(&[0; RECORD_LENGTH + 1], "check 10, the list is empty, too long, or not made of whole records");
     refused(
         &bytes(Record::Ground { condition: 1 }),
-        "check 12, a ground's condition is withdrawn, or has a term that isn't false there: record 1",
+        "check 12, a ground's condition is withdrawn or has a term that isn't false there, or a clique has too few classes or two not apart: record 1",
     );
-    let kind = "check 11, a record's kind, spare byte, lot or condition is out of range, or a ground's unused field isn't 0: record 1";
+    let kind = "check 11, a record's kind, spare byte, lot or condition is out of range, or an unused field of a ground or clique isn't 0: record 1";
     refused(&bytes(Record::Met), kind);
+    // Without a limit a clique is of no kind that a list may have.
+    refused(&bytes(Record::Clique), kind);
 }
 
 #[test]
