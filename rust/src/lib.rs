@@ -1,10 +1,11 @@
 //! A verified solver for equality conditions: safe functions over the proved services.
 //!
 //! A *sheet* has lots 1 to n and conditions, each a choice of terms "lots a and b the same" or "lots a and b apart", or withdrawn. Terms may also name lot 0,
-//! which no sheet counts: its number is 0 in every assignment, so that "same 0 a" asks the number 0 of lot a. Six services take a sheet's bytes:
+//! which no sheet counts: its number is 0 in every assignment, so that "same 0 a" asks the number 0 of lot a. Eight services take a sheet's bytes:
 //! [`read`] accepts or refuses them, [`search`] finds a grouping that meets every condition or a refutation, [`check`] checks a refutation from any hand,
-//! [`evaluate`] says whether a grouping meets the sheet, [`repack`] puts the records in order, so that equal lots and conditions are equal bytes, and [`merge`]
-//! makes one sheet of two. What they answer is proved; the types here only give the numbers and bytes their names.
+//! [`search_limited`] and [`check_limited`] do so under a limit on the number of groups, [`evaluate`] says whether a grouping meets the sheet, [`repack`] puts
+//! the records in order, so that equal lots and conditions are equal bytes, and [`merge`] makes one sheet of two. What they answer is proved; the types here
+//! only give the numbers and bytes their names.
 //!
 //! ```
 //! use lihumbay::{SheetBuilder, Term, Verdict};
@@ -30,6 +31,7 @@
 
 mod bytes;
 mod grouping;
+mod limited;
 mod limits;
 mod line;
 mod list;
@@ -49,6 +51,7 @@ mod walk;
 mod withdraw;
 
 pub use grouping::Grouping;
+pub use limited::{check_limited, search_limited, search_limited_into, search_limited_within};
 pub use limits::*;
 pub use list::RecordList;
 pub use merge::{MergeRefusal, merge, merge_into};

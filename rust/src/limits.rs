@@ -28,6 +28,9 @@ pub const MOST_SHEET_LENGTH: usize = sheet_length(MOST_CONDITIONS, MOST_TERMS);
 
 /// The stack that a thread needs to call [`search_into`](crate::search_into): a search takes up to 0.9 MB, the rest is the thread's own.
 pub const SEARCH_STACK: usize = 1 << 20;
+/// The stack that a thread needs to call [`search_limited_into`](crate::search_limited_into): a limited search takes up to 6.8 MB, the rest is the thread's
+/// own.
+pub const LIMITED_SEARCH_STACK: usize = 8 << 20;
 
 /// The length of a sheet with so many conditions and terms.
 pub const fn sheet_length(conditions: usize, terms: usize) -> usize {

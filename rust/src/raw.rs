@@ -26,8 +26,18 @@ unsafe extern "C" {
         store: *mut u8,
         store_length: usize,
     ) -> Numbers;
+    fn lihumbay_search_limited(
+        sheet: *const u8,
+        sheet_length: usize,
+        limit: u32,
+        grouping: *mut u8,
+        grouping_length: usize,
+        store: *mut u8,
+        store_length: usize,
+    ) -> Numbers;
     fn lihumbay_evaluate(sheet: *const u8, sheet_length: usize, grouping: *const u8, grouping_length: usize) -> Numbers;
     fn lihumbay_check(sheet: *const u8, sheet_length: usize, list: *const u8, list_length: usize) -> Numbers;
+    fn lihumbay_check_limited(sheet: *const u8, sheet_length: usize, limit: u32, list: *const u8, list_length: usize) -> Numbers;
     fn lihumbay_repack(sheet: *const u8, sheet_length: usize, out: *mut u8, out_length: usize) -> Numbers;
     fn lihumbay_merge(
         first: *const u8,
@@ -51,6 +61,14 @@ pub fn search(sheet: &[u8], grouping: &mut [u8], store: &mut [u8]) -> Numbers {
     unsafe { lihumbay_search(sheet.as_ptr(), sheet.len(), grouping.as_mut_ptr(), grouping.len(), store.as_mut_ptr(), store.len()) }
 }
 
+/// The search under a limit on the number of classes, lot 0's counted: 1 met or 2 cannot be met so, then the count of records written. Check 20: the limit is
+/// 0 or above 129. Check 9: the store is full. It needs up to 6.8 MB of stack.
+pub fn search_limited(sheet: &[u8], limit: u32, grouping: &mut [u8], store: &mut [u8]) -> Numbers {
+    let (grouping_at, store_at) = (grouping.as_mut_ptr(), store.as_mut_ptr());
+    // SAFETY: as in `search`.
+    unsafe { lihumbay_search_limited(sheet.as_ptr(), sheet.len(), limit, grouping_at, grouping.len(), store_at, store.len()) }
+}
+
 /// The evaluator: 0 where the grouping meets every condition, else the lowest that it doesn't. Lot 0 has no byte in a grouping; its number is 0.
 pub fn evaluate(sheet: &[u8], grouping: &[u8]) -> Numbers {
     // SAFETY: as in `read`.
@@ -61,6 +79,13 @@ pub fn evaluate(sheet: &[u8], grouping: &[u8]) -> Numbers {
 pub fn check(sheet: &[u8], list: &[u8]) -> Numbers {
     // SAFETY: as in `read`.
     unsafe { lihumbay_check(sheet.as_ptr(), sheet.len(), list.as_ptr(), list.len()) }
+}
+
+/// The refutation checker under a limit on the number of classes, lot 0's counted: check 0 where the list shows that nothing meets the sheet so. Check 20: the
+/// limit is 0 or above 129.
+pub fn check_limited(sheet: &[u8], limit: u32, list: &[u8]) -> Numbers {
+    // SAFETY: as in `read`.
+    unsafe { lihumbay_check_limited(sheet.as_ptr(), sheet.len(), limit, list.as_ptr(), list.len()) }
 }
 
 /// The repacker: the bytes written. Check 16: the output is shorter than the packed sheet, whose length is the place.

@@ -11,21 +11,23 @@ const STORE_FULL: u32 = 9;
 /// The case numbers of an ended search.
 const MET: u32 = 1;
 const CANNOT: u32 = 2;
+/// Beyond what a search needs, so that a thread of our own never has too little.
+const SPARE_STACK: usize = 1 << 20;
 
-/// What a search of an accepted sheet comes to.
+/// What a search of an accepted sheet comes to, without a limit on the number of classes or with one.
 #[derive(Clone, Debug, PartialEq, Eq)]
 pub enum Verdict<'a> {
-    /// Every condition can be met.
+    /// Every condition can be met; under a limit, with no more classes than it admits.
     Met {
         /// A byte for each lot from lot 1 on, and with it every condition is met. It is the smallest lot that the lot is together with, so 0 exactly where
-        /// that is lot 0.
+        /// that is lot 0. Under a limit these bytes and lot 0's number, 0, are no more different numbers than it admits.
         grouping: Grouping<'a>,
         /// The nodes visited, the last one met.
         records: RecordList<'a>,
     },
-    /// Nothing meets the sheet.
+    /// Nothing meets the sheet; under a limit, nothing with no more classes than it admits.
     Cannot {
-        /// The nodes visited, which [`check`](crate::check) passes.
+        /// The nodes visited, which [`check`](crate::check) passes, or [`check_limited`](crate::check_limited) under the same limit.
         refutation: RecordList<'a>,
     },
     /// The search visits more nodes than the store has records. Nothing is known of the sheet.
@@ -61,17 +63,7 @@ pub fn search(sheet: &[u8]) -> Result<Verdict<'static>, Refusal> {
 /// # Panics
 /// As [`search`].
 pub fn search_within(sheet: &[u8], capacity: usize) -> Result<Verdict<'static>, Refusal> {
-    let mut grouping = vec![0; MOST_LOTS];
-    let mut store = vec![0; capacity.min(MOST_RECORDS) * RECORD_LENGTH];
-    let numbers = on_own_thread(|| raw::search(sheet, &mut grouping, &mut store));
-    Ok(match Outcome::of(numbers, sheet)? {
-        Outcome::Met { lots, length } => {
-            grouping.truncate(lots);
-            Verdict::Met { grouping: grouping.into(), records: shortened(store, length).into() }
-        }
-        Outcome::Cannot { length } => Verdict::Cannot { refutation: shortened(store, length).into() },
-        Outcome::Full { capacity } => Verdict::Full { capacity },
-    })
+    with_own_buffers(sheet, capacity, SEARCH_STACK, |grouping, store| raw::search(sheet, grouping, store))
 }
 
 /// Searches with lent buffers, on the caller's thread: nothing is allocated, and the verdict borrows what was written. The store's capacity is its length
@@ -91,7 +83,37 @@ pub fn search_within(sheet: &[u8], capacity: usize) -> Result<Verdict<'static>, 
 /// # Ok::<(), Box<dyn std::error::Error>>(())
 /// ```
 pub fn search_into<'a>(sheet: &[u8], grouping: &'a mut [u8], store: &'a mut [u8]) -> Result<Verdict<'a>, Refusal> {
-    let numbers = raw::search(sheet, grouping, store);
+    with_lent_buffers(sheet, grouping, store, |grouping, store| raw::search(sheet, grouping, store))
+}
+
+/// A search by this call, which is lent a grouping and a store with room for `capacity` records, and runs on a thread of its own with so many bytes of stack.
+pub(crate) fn with_own_buffers(
+    sheet: &[u8],
+    capacity: usize,
+    stack: usize,
+    call: impl FnOnce(&mut [u8], &mut [u8]) -> Numbers + Send,
+) -> Result<Verdict<'static>, Refusal> {
+    let mut grouping = vec![0; MOST_LOTS];
+    let mut store = vec![0; capacity.min(MOST_RECORDS) * RECORD_LENGTH];
+    let numbers = on_own_thread(stack, || call(&mut grouping, &mut store));
+    Ok(match Outcome::of(numbers, sheet)? {
+        Outcome::Met { lots, length } => {
+            grouping.truncate(lots);
+            Verdict::Met { grouping: grouping.into(), records: shortened(store, length).into() }
+        }
+        Outcome::Cannot { length } => Verdict::Cannot { refutation: shortened(store, length).into() },
+        Outcome::Full { capacity } => Verdict::Full { capacity },
+    })
+}
+
+/// A search by this call, on the caller's thread and with its buffers.
+pub(crate) fn with_lent_buffers<'a>(
+    sheet: &[u8],
+    grouping: &'a mut [u8],
+    store: &'a mut [u8],
+    call: impl FnOnce(&mut [u8], &mut [u8]) -> Numbers,
+) -> Result<Verdict<'a>, Refusal> {
+    let numbers = call(grouping, store);
     Ok(match Outcome::of(numbers, sheet)? {
         Outcome::Met { lots, length } => Verdict::Met { grouping: grouping[..lots].into(), records: store[..length].into() },
         Outcome::Cannot { length } => Verdict::Cannot { refutation: store[..length].into() },
@@ -128,9 +150,9 @@ fn shortened(mut store: Vec<u8>, length: usize) -> Vec<u8> {
 }
 
 /// Runs the work where the stack is large enough, whatever the caller's is.
-fn on_own_thread<T: Send>(work: impl FnOnce() -> T + Send) -> T {
+fn on_own_thread<T: Send>(stack: usize, work: impl FnOnce() -> T + Send) -> T {
     thread::scope(|scope| {
-        let worker = thread::Builder::new().stack_size(2 * SEARCH_STACK).spawn_scoped(scope, work);
+        let worker = thread::Builder::new().stack_size(stack + SPARE_STACK).spawn_scoped(scope, work);
         let ended = worker.expect("the system starts a thread for a search").join();
         ended.unwrap_or_else(|panic| std::panic::resume_unwind(panic))
     })

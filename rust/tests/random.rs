@@ -1,6 +1,7 @@
 //! Made-up sheets, texts and bytes: what one function writes another one reads, and nothing panics.
 use lihumbay::{
-    Evaluation, HEAD_LENGTH, HEADER_LENGTH, MOST_LOTS, RECORD_LENGTH, RecordList, Sheet, SheetBuilder, TERM_LENGTH, Term, Verdict, ZERO_LOT,
+    Evaluation, HEAD_LENGTH, HEADER_LENGTH, MOST_LOTS, RECORD_LENGTH, Record, RecordError, RecordList, Sheet, SheetBuilder, TERM_LENGTH,
+    Term, Verdict, ZERO_LOT,
 };
 
 /// A small generator, the same at each run.
@@ -174,6 +175,68 @@ fn verdicts_pass_the_other_services() {
         }
     }
     assert!(met > 100 && with_zero_lot > 100 && cannot > 100, "{met} met, {with_zero_lot} with lot 0, {cannot} cannot");
+}
+
+/// Each way to put lots 1 to `lots` together with each other and with lot 0, as groupings: a lot has a number that was there before, or the next one.
+fn partitions(lots: usize) -> Vec<Vec<u8>> {
+    let mut all = vec![Vec::new()];
+    for _ in 0..lots {
+        let longer = |grouping: Vec<u8>| {
+            let next = grouping.iter().max().map_or(1, |most| most + 1);
+            (0..=next).map(move |number| [grouping.as_slice(), &[number]].concat())
+        };
+        all = all.into_iter().flat_map(longer).collect();
+    }
+    all
+}
+
+/// How many different numbers a grouping has, lot 0's 0 counted.
+fn numbers(grouping: &[u8]) -> u32 {
+    let mut numbers = [&[0], grouping].concat();
+    numbers.sort_unstable();
+    numbers.dedup();
+    numbers.len() as u32
+}
+
+/// The least number of groups that meets the sheet, by all ways to part its lots; none where nothing meets it.
+fn fewest(sheet: &[u8], lots: u16) -> Option<u32> {
+    let meets = |grouping: &Vec<u8>| lihumbay::evaluate(sheet, grouping) == Ok(Evaluation::AllMet);
+    partitions(lots.into()).iter().filter(|grouping| meets(grouping)).map(|grouping| numbers(grouping)).min()
+}
+
+#[test]
+fn verdicts_under_a_limit_are_those_of_all_groupings() {
+    let mut random = Random(8);
+    let (mut met, mut cannot, mut by_limit) = (0, 0, 0);
+    for _ in 0..1000 {
+        let written = random.sheet();
+        let sheet = written.to_bytes();
+        let fewest = fewest(&sheet, written.lots());
+        for limit in 1..=u32::from(written.lots()) + 2 {
+            let (mut grouping, mut store) = ([0; MOST_LOTS], [0; 2000 * RECORD_LENGTH]);
+            match lihumbay::search_limited_into(&sheet, limit, &mut grouping, &mut store).unwrap() {
+                Verdict::Met { grouping, .. } => {
+                    met += 1;
+                    assert!(fewest.is_some_and(|fewest| fewest <= limit), "{written}limit {limit}");
+                    assert_eq!(lihumbay::evaluate(&sheet, grouping.as_bytes()), Ok(Evaluation::AllMet));
+                    assert!(numbers(grouping.as_bytes()) <= limit);
+                }
+                Verdict::Cannot { refutation } => {
+                    cannot += 1;
+                    by_limit += usize::from(fewest.is_some());
+                    assert!(fewest.is_none_or(|fewest| fewest > limit), "{written}limit {limit}");
+                    assert_eq!(lihumbay::check_limited(&sheet, limit, refutation.as_bytes()), Ok(()));
+                    assert_eq!(lihumbay::check(&sheet, refutation.as_bytes()).is_ok(), refutation.records().all(is_no_clique));
+                }
+                Verdict::Full { capacity } => panic!("{capacity} records are enough for so small a sheet"),
+            }
+        }
+    }
+    assert!(met > 1000 && cannot > 500 && by_limit > 200, "{met} met, {cannot} cannot, {by_limit} of them by the limit alone");
+}
+
+fn is_no_clique(read: Result<(u32, Record), RecordError>) -> bool {
+    !matches!(read, Ok((_, Record::Clique)))
 }
 
 #[test]
