@@ -30,6 +30,7 @@
 #![warn(missing_debug_implementations, missing_docs)]
 
 mod bytes;
+mod classes;
 mod grouping;
 mod limited;
 mod limits;

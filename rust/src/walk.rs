@@ -1,4 +1,5 @@
 //! The tree that a list of records makes.
+use crate::classes;
 use crate::record::Record;
 use crate::records::{RecordError, Records};
 
@@ -37,7 +38,8 @@ pub struct Step {
     pub above: Option<Above>,
 }
 
-/// The iterator of [`RecordList::walk`](crate::RecordList::walk). Branches follow from the order of the records alone; a split's next isn't looked at.
+/// The iterator of [`RecordList::walk`](crate::RecordList::walk). Branches follow from the order of the records alone; a split's next isn't looked at. Between
+/// two steps it tells which splits stand above the record that it gave last, and which classes they make.
 ///
 /// ```
 /// use lihumbay::{Branch, Sheet, Verdict};
@@ -51,13 +53,37 @@ pub struct Step {
 #[derive(Clone, Debug)]
 pub struct Walk<'a> {
     records: Records<'a>,
-    /// The splits above the next record, with the branch in which it stands.
+    /// The splits above the record given last, with the branch in which it stands.
     path: Vec<Above>,
+    /// That record, unless it can't be read.
+    given: Option<(u32, Record)>,
 }
 
 impl<'a> Walk<'a> {
     pub(crate) fn new(records: Records<'a>) -> Self {
-        Walk { records, path: Vec::new() }
+        Walk { records, path: Vec::new(), given: None }
+    }
+
+    /// The splits above the record that was given last, each with the branch in which that record stands, from the first record on.
+    pub fn path(&self) -> &[Above] {
+        &self.path
+    }
+
+    /// The classes of lots 0 to `lots` at the record that was given last: lots are together where splits above it, in their same branches, connect them. Each
+    /// class is a rising list of lots, and they are in the order of their smallest lots, so that lot 0's is the first. At a clique the first of them, one more
+    /// than the limit, are those that are apart pairwise.
+    ///
+    /// ```
+    /// use lihumbay::{Record, Sheet, Verdict};
+    /// let sheet: Sheet = "same 2 3\napart 1 2".parse()?;
+    /// let Verdict::Cannot { refutation } = lihumbay::search_limited(&sheet.to_bytes(), 1)? else { panic!() };
+    /// let mut walk = refutation.walk();
+    /// assert!(walk.any(|step| step.is_ok_and(|step| step.record == Record::Clique)));
+    /// assert_eq!(walk.classes(sheet.lots()), [[0, 1], [2, 3]]);
+    /// # Ok::<(), Box<dyn std::error::Error>>(())
+    /// ```
+    pub fn classes(&self, lots: u16) -> Vec<Vec<usize>> {
+        classes::under(&self.path, lots)
     }
 
     /// Goes to where the record after this one stands.
@@ -80,11 +106,11 @@ impl Iterator for Walk<'_> {
     type Item = Result<Step, RecordError>;
 
     fn next(&mut self) -> Option<Self::Item> {
-        let read = self.records.next()?;
-        Some(read.map(|(number, record)| {
-            let step = Step { number, record, depth: self.path.len(), above: self.path.last().copied() };
+        if let Some((number, record)) = self.given.take() {
             self.pass(number, record);
-            step
-        }))
+        }
+        let read = self.records.next()?;
+        self.given = read.ok();
+        Some(read.map(|(number, record)| Step { number, record, depth: self.path.len(), above: self.path.last().copied() }))
     }
 }

@@ -215,6 +215,24 @@ fn a_list_may_be_as_deep_as_there_are_pairs_of_lots() {
     assert!(list.len() < MOST_RECORDS);
 }
 
+#[test]
+fn a_walk_tells_the_classes_of_a_clique() {
+    let Ok(Verdict::Cannot { refutation }) = lihumbay::search_limited(&sheet(THREE), 2) else { panic!("met") };
+    let mut walk = refutation.walk();
+    let mut cliques = Vec::new();
+    while let Some(Ok(step)) = walk.next() {
+        assert_eq!((step.depth, step.above), (walk.path().len(), walk.path().last().copied()));
+        if step.record == Record::Clique {
+            cliques.push(walk.classes(3));
+        }
+    }
+    let [first, second, third] = cliques.try_into().expect("three cliques");
+    assert_eq!(first, [vec![0, 1], vec![2], vec![3]]);
+    assert_eq!(second, [vec![0, 2], vec![1], vec![3]]);
+    // The limit is 2: lots 0, 1 and 2 are the clique.
+    assert_eq!(third, [[0], [1], [2], [3]]);
+}
+
 /// The splits of a long path: one for each "same" term, and one of the limit's.
 const DEEPEST: usize = 1024;
 
