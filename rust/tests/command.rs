@@ -4,7 +4,7 @@ mod support;
 use lihumbay::{RECORD_LENGTH, Record};
 use std::io::{BufRead, BufReader, Read, Write};
 use std::process::{Command, Stdio};
-use support::{Run, Scratch, command, encoded, run};
+use support::{Scratch, assert_complained, assert_said, command, encoded, run};
 
 const A: &str = "same 1 2\nsame 2 3\napart 1 3\n";
 const C: &[u8] = include_bytes!("../../samples/c.sheet");
@@ -46,16 +46,6 @@ const C_GRAPH: &str = r#"digraph search {
 fn large() -> Vec<u8> {
     let pairs = (1..=14).map(|i| format!("same {} {} | same {} 100\n", 2 * i, 2 * i + 1, 2 * i));
     encoded(&(pairs.collect::<String>() + "apart 1 1\n"))
-}
-
-/// The run wrote this, complained of nothing, and ended with this status.
-fn assert_said(run: &Run, status: i32, text: &str) {
-    assert_eq!((run.status, run.text(), run.errors.as_str()), (status, text, ""));
-}
-
-/// The run wrote nothing, complained so, and ended with this status.
-fn assert_complained(run: &Run, status: i32, message: &str) {
-    assert_eq!((run.status, run.text(), run.errors.as_str()), (status, "", format!("lihumbay: {message}\n").as_str()));
 }
 
 #[test]

@@ -1,19 +1,23 @@
 //! `check` and `evaluate`.
 use super::ending::{Failure, Status};
 use super::files::{self, Source};
-use super::report::counted;
+use super::report::{counted, within};
 use super::sheets;
 use lihumbay::{Evaluation, MOST_LOTS, MOST_RECORDS, RECORD_LENGTH, RecordList, Refusal, Subject};
 
-pub fn check(sheet: &Source, list: &Source) -> Result<Status, Failure> {
+pub fn check(sheet: &Source, list: &Source, limit: Option<u32>) -> Result<Status, Failure> {
     let sheet = sheets::read(sheet)?;
     let records = list.first_bytes(MOST_RECORDS * RECORD_LENGTH + 1)?;
-    match lihumbay::check(&sheet.bytes, &records) {
+    let checked = match limit {
+        None => lihumbay::check(&sheet.bytes, &records),
+        Some(limit) => lihumbay::check_limited(&sheet.bytes, limit, &records),
+    };
+    match checked {
         Ok(()) => {
             let records = counted(RecordList::from(records).count(), "record");
-            files::print(|out| writeln!(out, "passed: a refutation of {records}, so nothing meets the sheet"))
+            files::print(|out| writeln!(out, "passed: a refutation of {records}, so nothing meets the sheet{}", within(limit)))
         }
-        Err(refusal) => Err(list.failure(refusal).with(status_of(refusal))),
+        Err(refusal) => Err(list.refused(refusal).with(status_of(refusal))),
     }
 }
 

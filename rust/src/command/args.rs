@@ -2,7 +2,7 @@
 use super::ending::Failure;
 use super::files::Source;
 use super::help;
-use lihumbay::{MOST_CONDITIONS, MOST_RECORDS};
+use lihumbay::{MOST_CONDITIONS, MOST_LIMIT, MOST_RECORDS};
 use std::ffi::{OsStr, OsString};
 use std::path::PathBuf;
 
@@ -17,7 +17,7 @@ pub enum Request {
     Merge { first: Source, second: Source },
     Withdraw { sheet: Source, condition: u32 },
     Search(Search),
-    Check { sheet: Source, list: Source },
+    Check { sheet: Source, list: Source, limit: Option<u32> },
     Evaluate { sheet: Source, grouping: Source },
 }
 
@@ -25,12 +25,32 @@ pub enum Request {
 #[derive(Debug, PartialEq)]
 pub struct Search {
     pub sheet: Source,
+    pub options: Options,
+}
+
+/// What options say. A command has some of them.
+#[derive(Debug, PartialEq)]
+pub struct Options {
+    /// The most groups, if they are limited.
+    pub limit: Option<u32>,
     /// The records that the store has room for.
     pub records: usize,
     pub dot: bool,
     pub refutation: Option<PathBuf>,
     pub grouping: Option<PathBuf>,
 }
+
+impl Default for Options {
+    fn default() -> Self {
+        Options { limit: None, records: MOST_RECORDS, dot: false, refutation: None, grouping: None }
+    }
+}
+
+const LIMIT: &str = "--limit";
+const RECORDS: &str = "--records";
+const DOT: &str = "--dot";
+const REFUTATION: &str = "--refutation";
+const GROUPING: &str = "--grouping";
 
 pub fn parse(mut arguments: impl Iterator<Item = OsString>) -> Result<Request, Failure> {
     let Some(first) = arguments.next() else { return Err(wrong("a command is missing", "")) };
@@ -46,7 +66,7 @@ pub fn parse(mut arguments: impl Iterator<Item = OsString>) -> Result<Request, F
         "merge" => rest.files_alone(["the first sheet", "the second sheet"], |[first, second]| Request::Merge { first, second }),
         "withdraw" => rest.withdraw(),
         "search" => rest.search(),
-        "check" => rest.files_alone(["the sheet", "the list"], |[sheet, list]| Request::Check { sheet, list }),
+        "check" => rest.check(),
         "evaluate" => rest.files_alone(["the sheet", "the grouping"], |[sheet, grouping]| Request::Evaluate { sheet, grouping }),
         unknown => Err(wrong(&format!("there is no command `{unknown}`"), "")),
     }
@@ -92,38 +112,54 @@ impl Arguments<'_> {
         })
     }
 
+    fn search(self) -> Result<Request, Failure> {
+        self.with_options(&[LIMIT, RECORDS, DOT, REFUTATION, GROUPING], |own, files, options| {
+            let [sheet] = own.sources(files, ["the sheet"])?;
+            Ok(Request::Search(Search { sheet, options }))
+        })
+    }
+
+    fn check(self) -> Result<Request, Failure> {
+        self.with_options(&[LIMIT], |own, files, options| {
+            let [sheet, list] = own.sources(files, ["the sheet", "the list"])?;
+            Ok(Request::Check { sheet, list, limit: options.limit })
+        })
+    }
+
     /// A command that has operands, and no options but `--help`.
-    fn operands(mut self, request: impl FnOnce(&Self, Vec<OsString>) -> Result<Request, Failure>) -> Result<Request, Failure> {
-        let mut operands = Vec::new();
+    fn operands(self, request: impl FnOnce(&Self, Vec<OsString>) -> Result<Request, Failure>) -> Result<Request, Failure> {
+        self.with_options(&[], |own, operands, _| request(own, operands))
+    }
+
+    /// A command that has operands, and these options beside `--help`.
+    fn with_options(
+        mut self,
+        known: &[&str],
+        request: impl FnOnce(&Self, Vec<OsString>, Options) -> Result<Request, Failure>,
+    ) -> Result<Request, Failure> {
+        let (mut operands, mut options) = (Vec::new(), Options::default());
         while let Some(argument) = self.next(&mut operands) {
             match argument {
                 Argument::File(operand) => operands.push(operand),
                 Argument::Option(name, _) if is_help(&name) => return self.own_help(),
+                Argument::Option(name, joined) if known.contains(&name.as_str()) => self.option(&mut options, &name, joined)?,
                 Argument::Option(name, _) => return Err(self.unknown(&name)),
             }
         }
-        request(&self, operands)
+        request(&self, operands, options)
     }
 
-    fn search(mut self) -> Result<Request, Failure> {
-        let mut files = Vec::new();
-        let (mut records, mut dot, mut refutation, mut grouping) = (MOST_RECORDS, false, None, None);
-        while let Some(argument) = self.next(&mut files) {
-            match argument {
-                Argument::File(file) => files.push(file),
-                Argument::Option(name, joined) => match name.as_str() {
-                    "--records" => records = self.record_count(joined)?,
-                    "--dot" if joined.is_some() => return Err(wrong("`--dot` takes no value", self.command)),
-                    "--dot" => dot = true,
-                    "--refutation" => refutation = Some(self.output("--refutation", joined)?),
-                    "--grouping" => grouping = Some(self.output("--grouping", joined)?),
-                    name if is_help(name) => return self.own_help(),
-                    name => return Err(self.unknown(name)),
-                },
-            }
+    fn option(&mut self, options: &mut Options, name: &str, joined: Option<OsString>) -> Result<(), Failure> {
+        match name {
+            LIMIT => options.limit = Some(self.limit(joined)?),
+            RECORDS => options.records = self.record_count(joined)?,
+            DOT if joined.is_some() => return Err(wrong("`--dot` takes no value", self.command)),
+            DOT => options.dot = true,
+            REFUTATION => options.refutation = Some(self.output(REFUTATION, joined)?),
+            GROUPING => options.grouping = Some(self.output(GROUPING, joined)?),
+            name => return Err(self.unknown(name)),
         }
-        let [sheet] = self.sources(files, ["the sheet"])?;
-        Ok(Request::Search(Search { sheet, records, dot, refutation, grouping }))
+        Ok(())
     }
 
     /// The next argument. After `--` all that is left are files.
@@ -146,8 +182,15 @@ impl Arguments<'_> {
         joined.or_else(|| self.rest.next()).ok_or_else(|| wrong(&format!("`{option}` needs a value"), self.command))
     }
 
+    /// A limit as large as the services take one. Whether it is admitted they say, behind what they say of the sheet.
+    fn limit(&mut self, joined: Option<OsString>) -> Result<u32, Failure> {
+        let value = self.value(LIMIT, joined)?;
+        let number = whole_number(&value).and_then(|number| u32::try_from(number).ok());
+        number.ok_or_else(|| wrong(&format!("`--limit` is a number from 1 to {MOST_LIMIT}, not `{}`", value.display()), self.command))
+    }
+
     fn record_count(&mut self, joined: Option<OsString>) -> Result<usize, Failure> {
-        let value = self.value("--records", joined)?;
+        let value = self.value(RECORDS, joined)?;
         let number = whole_number(&value).filter(|&number| number <= MOST_RECORDS);
         number.ok_or_else(|| wrong(&format!("`--records` is a number from 0 to {MOST_RECORDS}, not `{}`", value.display()), self.command))
     }

@@ -1,5 +1,6 @@
 //! Files, standard input and the two outputs.
 use super::ending::{Failure, Status};
+use lihumbay::{Refusal, Subject};
 use std::ffi::OsString;
 use std::fmt;
 use std::fs::{self, File};
@@ -51,6 +52,14 @@ impl Source {
     /// A failure that names the source.
     pub fn failure(&self, why: impl fmt::Display) -> Failure {
         Failure::new(format!("{self}: {why}"))
+    }
+
+    /// A refusal that names the source, or the option where the limit is refused.
+    pub fn refused(&self, refusal: Refusal) -> Failure {
+        match refusal.check.subject() {
+            Some(Subject::Limit) => Failure::new(format!("`--limit`: {refusal}")),
+            _ => self.failure(refusal),
+        }
     }
 }
 

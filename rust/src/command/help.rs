@@ -1,5 +1,5 @@
 //! The help texts. Lines are at most 80 characters long.
-use lihumbay::{MOST_CONDITIONS, MOST_LOTS, MOST_RECORDS, MOST_TERMS};
+use lihumbay::{MOST_CONDITIONS, MOST_LIMIT, MOST_LOTS, MOST_RECORDS, MOST_TERMS};
 
 pub const WHOLE: &str = "\
 lihumbay: a verified solver for equality conditions
@@ -24,8 +24,8 @@ A file that is `-`, or the last one if it is missing, is standard input.
 Exit status:
   0  met, passed, written
   1  cannot be met, refused by the refutation checker, not met
-  2  a refused sheet, two sheets too large to merge, a file that can't be read
-     or written, wrong arguments
+  2  a refused sheet or limit, two sheets too large to merge, a file that can't
+     be read or written, wrong arguments
   3  a search's store is full, which says neither met nor cannot
 ";
 
@@ -124,31 +124,43 @@ Searches for a grouping that meets the sheet. The report is
   cannot be met  and the refutation, a line for each of its records: a split,
                  and below it what follows when its lots are the same, then
                  when they are apart; a ground with its condition, of which
-                 every term is false there;
+                 every term is false there; under a limit, a clique with its
+                 classes, one more than the limit and all of them apart;
   store full     where the search visits more nodes than the store has records.
 
 Options:
+  --limit G          no more than G groups, from 1 to {MOST_LIMIT}; lot 0's counts as one
+                     also where no lot is together with it, and has its line
   --records N        a store of N records, at most (and if not given) {MOST_RECORDS}
   --dot              no report: the nodes visited, as a Graphviz graph; the
                      node that is met has the report's line `0:`, if any
   --refutation FILE  if there is a refutation, write its records to FILE, which
-                     `lihumbay check` takes
+                     `lihumbay check` takes, with the same limit
   --grouping FILE    if there is a grouping, write its bytes to FILE, one for
                      each lot from 1 on, which `lihumbay evaluate` takes; lots
                      that are together with lot 0 have byte 0
 
-Exit status: 0 met, 1 cannot be met, 2 a refused sheet, 3 store full.
+Exit status: 0 met, 1 cannot be met, 2 a refused sheet or limit, 3 store full.
 "
     )
 }
 
-const CHECK: &str = "\
-Usage: lihumbay check SHEET [LIST]
+fn check() -> String {
+    format!(
+        "\
+Usage: lihumbay check [OPTIONS] SHEET [LIST]
 
 Checks a list of records, from any hand. If it passes, nothing meets the sheet.
 
-Exit status: 0 passed, 1 the list is refused, 2 the sheet is refused.
-";
+Options:
+  --limit G   the list may have cliques, and if it passes, nothing meets the
+              sheet with no more than G groups, from 1 to {MOST_LIMIT}; lot 0's counts
+              as one also where no lot is together with it
+
+Exit status: 0 passed, 1 the list is refused, 2 the sheet or limit is refused.
+"
+    )
+}
 
 const EVALUATE: &str = "\
 Usage: lihumbay evaluate SHEET [GROUPING]
@@ -170,7 +182,7 @@ pub fn of(command: &str) -> Option<String> {
         "merge" => merge(),
         "withdraw" => WITHDRAW.into(),
         "search" => search(),
-        "check" => CHECK.into(),
+        "check" => check(),
         "evaluate" => EVALUATE.into(),
         _ => return None,
     })

@@ -36,7 +36,7 @@ fn answer(request: Request) -> Result<Status, Failure> {
         Request::Merge { first, second } => sheets::merge(&first, &second),
         Request::Withdraw { sheet, condition } => sheets::withdraw(&sheet, condition),
         Request::Search(search) => search::run(&search),
-        Request::Check { sheet, list } => answers::check(&sheet, &list),
+        Request::Check { sheet, list, limit } => answers::check(&sheet, &list, limit),
         Request::Evaluate { sheet, grouping } => answers::evaluate(&sheet, &grouping),
     }
 }

@@ -34,6 +34,16 @@ pub fn run(arguments: &[&str], input: &[u8]) -> Run {
     Run { status: output.status.code().expect("the command ends by itself"), out: output.stdout, errors }
 }
 
+/// The run wrote this, complained of nothing, and ended with this status.
+pub fn assert_said(run: &Run, status: i32, text: &str) {
+    assert_eq!((run.status, run.text(), run.errors.as_str()), (status, text, ""));
+}
+
+/// The run wrote nothing, complained so, and ended with this status.
+pub fn assert_complained(run: &Run, status: i32, message: &str) {
+    assert_eq!((run.status, run.text(), run.errors.as_str()), (status, "", format!("lihumbay: {message}\n").as_str()));
+}
+
 /// A sheet's bytes, made by the command.
 pub fn encoded(text: &str) -> Vec<u8> {
     let run = run(&["encode"], text.as_bytes());
