@@ -22,10 +22,15 @@ fn printed(sheet: &[u8]) -> Vec<u8> {
     child.wait_with_output().expect("the program ends").stdout
 }
 
-/// The search's numbers, with both buffers as the page has them afterwards.
-fn searched(call: &Call, sheet: &[u8], grouping_after: &[u8], store_after: &[u8]) -> Answer {
+/// A limit, which the page has as four bytes.
+fn limit(bytes: &[u8]) -> u32 {
+    u32::from_le_bytes(bytes.try_into().expect("a limit is four bytes"))
+}
+
+/// The numbers of a search, with both buffers as the page has them afterwards.
+fn searched(call: &Call, search: impl FnOnce(&mut [u8], &mut [u8]) -> raw::Numbers, grouping_after: &[u8], store_after: &[u8]) -> Answer {
     let (mut grouping, mut store) = (vec![FILL; grouping_after.len()], vec![FILL; store_after.len()]);
-    let numbers = plain(raw::search(sheet, &mut grouping, &mut store));
+    let numbers = plain(search(&mut grouping, &mut store));
     assert_eq!(grouping, grouping_after, "the grouping after {}", call.text);
     assert_eq!(store, store_after, "the store after {}", call.text);
     Answer::Numbers(numbers)
@@ -50,9 +55,13 @@ fn merged(call: &Call, first: &[u8], second: &[u8], out_after: &[u8]) -> Answer 
 fn answered(call: &Call) -> Answer {
     match (call.service.as_str(), call.given.as_slice()) {
         ("read", [sheet]) => Answer::Numbers(plain(raw::read(sheet))),
-        ("search", [sheet, grouping, store]) => searched(call, sheet, grouping, store),
+        ("search", [sheet, grouping, store]) => searched(call, |g, s| raw::search(sheet, g, s), grouping, store),
+        ("search_limited", [sheet, most, grouping, store]) => {
+            searched(call, |g, s| raw::search_limited(sheet, limit(most), g, s), grouping, store)
+        }
         ("evaluate", [sheet, grouping]) => Answer::Numbers(plain(raw::evaluate(sheet, grouping))),
         ("check", [sheet, list]) => Answer::Numbers(plain(raw::check(sheet, list))),
+        ("check_limited", [sheet, most, list]) => Answer::Numbers(plain(raw::check_limited(sheet, limit(most), list))),
         ("repack", [sheet, out]) => repacked(call, sheet, out),
         ("merge", [first, second, out]) => merged(call, first, second, out),
         ("print", [sheet]) => Answer::Printed(printed(sheet)),
