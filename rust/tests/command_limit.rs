@@ -6,7 +6,7 @@ use std::process::Command;
 use support::{Scratch, assert_complained, assert_said, encoded, run};
 
 /// Three lots that are all apart; lot 0 may be together with any of them.
-const THREE: &str = "apart 1 2\napart 1 3\napart 2 3\n";
+const THREE: &str = include_str!("../../samples/apart.txt");
 
 const THREE_REPORT: &str = "\
 cannot be met with at most 2 groups: refutation of 17 records
