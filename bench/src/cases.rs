@@ -22,7 +22,7 @@ pub struct Case {
     pub nodes: usize,
 }
 
-fn case(key: &str, name: &str, family: &'static str, sheet: Sheet, answer: Answer, nodes: usize) -> Case {
+pub fn case(key: &str, name: &str, family: &'static str, sheet: Sheet, answer: Answer, nodes: usize) -> Case {
     Case { key: key.into(), name: name.into(), family, sheet, answer, nodes }
 }
 
@@ -85,7 +85,7 @@ fn chains() -> Vec<Case> {
     vec![case("chain-128", "chain of 128 lots", "chain", chain(128), Answer::Cannot, 255), two(8), two(12)]
 }
 
-const SLOW: &str = "made to be slow";
+pub const SLOW: &str = "made to be slow";
 
 /// Hundreds of terms are false by hundreds of pairs at many nodes: the condition that multiplies nodes, the pairs and the terms differ.
 fn slow_products() -> Vec<Case> {

@@ -1,18 +1,19 @@
 //! Nothing is timed before the contenders agree: in the answer, in the count that the input is known to have, and in every byte of all buffers.
+use crate::families::ENDS;
 use crate::jobs::{Buffers, Job, OWN, PAINT, Service, packed_length};
 use crate::random::Random;
 use crate::records::{self, refused};
 use crate::repack::{self, Repack};
 use crate::sheets::{MOST_BYTES, Sheet, apart, same};
-use crate::{check, evaluations, families, lists, merges, read, terms};
+use crate::{check, evaluations, families, limited_compare, lists, merges, read, terms};
 use std::collections::HashSet;
 use std::ops::RangeInclusive;
 
 /// Changed lists are tried where a list is shorter than this.
 const SHORT_LIST: usize = 8 * 10_000;
 
-/// Stops the run where a contender differs from the product, or the product from what is known.
-fn agree(job: &Job, what: &str) {
+/// Stops the run where a contender differs from the product.
+pub fn agree(job: &Job, what: &str) {
     let outcome = |contender| {
         let mut buffers = Buffers::new();
         (job.run(contender, &mut buffers), buffers)
@@ -125,10 +126,10 @@ fn outputs(job: &Job, lengths: RangeInclusive<usize>) {
 }
 
 /// A sheet with its records in order or, with a seed, in random order. Of the answers only a repacker's is known.
-fn job_of(service: Service, name: String, sheet: &Sheet, shuffled: Option<u64>) -> Job {
+pub fn job_of(service: Service, name: String, sheet: &Sheet, shuffled: Option<u64>) -> Job {
     let bytes = shuffled.map_or_else(|| sheet.bytes(), |seed| sheet.bytes_shuffled(seed));
     let known = packed_length(sheet);
-    Job { service, key: String::new(), name, family: "compared", sheet: sheet.clone(), bytes, given: Vec::new(), units: 1, known }
+    Job { service, key: String::new(), name, family: "compared", sheet: sheet.clone(), bytes, given: Vec::new(), limit: 0, units: 1, known }
 }
 
 /// The refutation that the product's search writes for a sheet, if it isn't long; and with its first ground naming a withdrawn condition instead, each in turn,
@@ -194,9 +195,9 @@ pub fn random_sheets() {
 
 /// Random lists whose splits name lots at both ends, lot 0 among them, once and twice. Some pass, and others fail at a ground.
 pub fn random_lists() {
-    let (sheet, mut checks) = (families::each_term_of_ends(), HashSet::new());
+    let (sheet, mut checks) = (families::each_term_of(ENDS), HashSet::new());
     for seed in 1..=2000 {
-        let given = lists::random(seed, sheet.conditions.len());
+        let given = lists::random(seed, ENDS, sheet.conditions.len(), 12, 0);
         let job = Job { given, ..job_of(Service::Check, format!("random list {seed}"), &sheet, None) };
         agree(&job, "");
         checks.insert(check::ALL[0].1(&job.bytes, &job.given).check);
@@ -240,18 +241,25 @@ fn small_sheets(name: &str, whole: &Sheet, without_lots: Sheet) {
     }
 }
 
+/// The list that the product's search writes for the sheet of a check.
+fn own_list(job: &Job) -> Vec<u8> {
+    let limited = |sheet: &[u8], grouping: &mut [u8], store: &mut [u8]| lihumbay::raw::search_limited(sheet, job.limit, grouping, store);
+    if job.service == Service::CheckLimited { lists::own(limited, &job.bytes) } else { lists::own(lihumbay::raw::search, &job.bytes) }
+}
+
 /// All that is compared before a job is timed.
 pub fn compare(job: &mut Job) {
     agree(job, "");
     let product = job.run(0, &mut Buffers::new());
     assert!(product == job.known, "{}: {product:?}, and not {:?}", job.name, job.known);
     if job.family == OWN {
-        assert!(job.given == lists::own(lihumbay::raw::search, &job.bytes), "{}: the product's search writes another list", job.name);
+        assert!(job.given == own_list(job), "{}: the product's search writes another list", job.name);
     }
     match job.service {
         Service::Search => {}
-        Service::Check if job.given.len() < SHORT_LIST => changed_lists(job),
-        Service::Check => {}
+        Service::SearchLimited => limited_compare::limits(job),
+        Service::Check | Service::CheckLimited if job.given.len() < SHORT_LIST => changed_lists(job),
+        Service::Check | Service::CheckLimited => {}
         Service::Read => changed_readings(job),
         Service::Evaluate => evaluations::changed(job),
         Service::Repack => {

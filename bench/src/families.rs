@@ -16,6 +16,15 @@ pub fn long_condition(terms: usize) -> Sheet {
     sheet
 }
 
+/// One condition of "same" terms over lots from 2 on, and lots 0 and 1 apart. Under the limit 1 a path has a split for each term, and one more on lots 0 and 1,
+/// whose branches are a ground and a clique: 4 * terms + 1 nodes.
+pub fn long_limited(terms: usize) -> Sheet {
+    let mut sheet = Sheet::new(128);
+    sheet.condition(same_pairs(127, terms).into_iter().map(|term| same(term.a + 1, term.b + 1)));
+    sheet.condition([apart(0, 1)]);
+    sheet
+}
+
 /// The longest chain that a sheet can have, of 1,024 "same" terms.
 pub fn longest_chain() -> Sheet {
     let mut sheet = Sheet::new(128);
@@ -84,6 +93,39 @@ pub fn mixed(seed: u64, lots: usize) -> Sheet {
     for _ in 0..256 {
         let width = 2 + random.below(3);
         sheet.condition((0..width).map(|_| random_term(&mut random, lots)));
+    }
+    sheet
+}
+
+/// Lots without conditions.
+pub fn free(lots: usize) -> Sheet {
+    Sheet::new(lots)
+}
+
+/// Each two of some lots apart, the first of them 1 and the last `apart_lots`, and lots behind them that no condition names.
+pub fn all_apart(apart_lots: usize, lots: usize) -> Sheet {
+    let mut sheet = Sheet::new(lots);
+    for a in 1..=apart_lots {
+        for b in a + 1..=apart_lots {
+            sheet.condition([apart(a, b)]);
+        }
+    }
+    sheet
+}
+
+/// `edges` random pairs of lots that must be apart, none of them twice.
+pub fn graph(seed: u64, lots: usize, edges: usize) -> Sheet {
+    let mut random = Random::new(seed);
+    let mut pairs: Vec<(usize, usize)> = Vec::new();
+    while pairs.len() < edges {
+        let (a, b) = (1 + random.below(lots), 1 + random.below(lots));
+        if a < b && !pairs.contains(&(a, b)) {
+            pairs.push((a, b));
+        }
+    }
+    let mut sheet = Sheet::new(lots);
+    for (a, b) in pairs {
+        sheet.condition([apart(a, b)]);
     }
     sheet
 }
@@ -160,13 +202,31 @@ pub fn mixed_ends(seed: u64) -> Sheet {
     mixed(seed, ENDS.len()).renumbered(128, |lot| ENDS[lot - 1])
 }
 
-/// A condition for each term over these lots, behind one "apart a a" for each of them, which no assignment meets.
-pub fn each_term_of_ends() -> Sheet {
-    let mut sheet = Sheet::new(128);
-    ENDS.into_iter().for_each(|a| sheet.condition([apart(a, a)]));
-    for (a, b) in ENDS.into_iter().flat_map(|a| ENDS.map(|b| (a, b))) {
+/// A condition for each term over these lots, the last of which is the sheet's, behind one "apart a a" for each of them, which no assignment meets.
+pub fn each_term_of(lots: [usize; 6]) -> Sheet {
+    let mut sheet = Sheet::new(lots[5]);
+    lots.into_iter().for_each(|a| sheet.condition([apart(a, a)]));
+    for (a, b) in lots.into_iter().flat_map(|a| lots.map(|b| (a, b))) {
         sheet.condition([same(a, b)]);
         sheet.condition([apart(a, b)]);
+    }
+    sheet
+}
+
+/// The first lots, so that all classes of a sheet with no more may count under a limit.
+pub const FIRST: [usize; 6] = [0, 1, 2, 3, 4, 5];
+
+/// Two to fifteen conditions of one to three terms over lots 0 to twelve at most, half of them "apart": few enough for a small tree under any limit.
+pub fn few(seed: u64) -> Sheet {
+    let mut random = Random::new(seed);
+    let lots = 2 + random.below(11);
+    let mut sheet = Sheet::new(lots);
+    for _ in 0..2 + random.below(14) {
+        let width = 1 + random.below(3);
+        sheet.condition((0..width).map(|_| {
+            let (is_same, a, b) = (random.below(2) == 0, random.below(lots + 1), random.below(lots + 1));
+            if is_same { same(a, b) } else { apart(a, b) }
+        }));
     }
     sheet
 }

@@ -2,6 +2,7 @@
 use crate::cases::{self, Answer, Case};
 use crate::families;
 use crate::first_true::{self, Shape};
+use crate::limited_cases;
 use crate::lists::Joins;
 use crate::pairs::{self, Pair};
 use crate::records::{MOST, answered, refused};
@@ -13,6 +14,8 @@ use lihumbay::raw::Numbers;
 pub enum Service {
     Search,
     Check,
+    SearchLimited,
+    CheckLimited,
     Read,
     Evaluate,
     Repack,
@@ -20,17 +23,28 @@ pub enum Service {
 }
 
 impl Service {
-    pub const ALL: [Service; 6] = [Service::Search, Service::Check, Service::Read, Service::Evaluate, Service::Repack, Service::Merge];
+    pub const ALL: [Service; 8] = [
+        Service::Search,
+        Service::Check,
+        Service::SearchLimited,
+        Service::CheckLimited,
+        Service::Read,
+        Service::Evaluate,
+        Service::Repack,
+        Service::Merge,
+    ];
 
     /// The service of a word that a command was given.
     pub fn named(word: &str) -> Service {
-        Service::ALL.into_iter().find(|known| known.word() == word).expect("a service: search, check, read, evaluate, repack or merge")
+        Service::ALL.into_iter().find(|known| known.word() == word).expect("a service by the name of its function, as `search_limited`")
     }
 
     pub fn word(self) -> &'static str {
         match self {
             Service::Search => "search",
             Service::Check => "check",
+            Service::SearchLimited => "search_limited",
+            Service::CheckLimited => "check_limited",
             Service::Read => "read",
             Service::Evaluate => "evaluate",
             Service::Repack => "repack",
@@ -41,8 +55,8 @@ impl Service {
     /// What the costs are counted by.
     pub fn unit(self) -> &'static str {
         match self {
-            Service::Search => "node",
-            Service::Check => "record",
+            Service::Search | Service::SearchLimited => "node",
+            Service::Check | Service::CheckLimited => "record",
             Service::Read | Service::Repack | Service::Merge => "term record",
             Service::Evaluate => "condition",
         }
@@ -52,6 +66,8 @@ impl Service {
         match self {
             Service::Search => search::ALL.map(|(name, _)| name).into(),
             Service::Check => check::ALL.map(|(name, _)| name).into(),
+            Service::SearchLimited => search::LIMITED.map(|(name, _)| name).into(),
+            Service::CheckLimited => check::LIMITED.map(|(name, _)| name).into(),
             Service::Read => read::ALL.map(|(name, _)| name).into(),
             Service::Evaluate => evaluate::ALL.map(|(name, _)| name).into(),
             Service::Repack => repack::ALL.map(|(name, _)| name).into(),
@@ -71,6 +87,8 @@ pub struct Job {
     /// What a call is given beside the sheet: the list that the checker walks, the evaluator's grouping, the second sheet of a merge. It is empty for the other
     /// services, and for a merge whose first sheet is lent twice.
     pub given: Vec<u8>,
+    /// The limit of a limited search or check; 0 for the other services.
+    pub limit: u32,
     /// How many nodes, records of a list, term records, those of both sheets in a merge, or conditions that are looked at.
     pub units: usize,
     pub known: Numbers,
@@ -99,6 +117,8 @@ impl Job {
         match self.service {
             Service::Search => search::ALL[contender].1(&self.bytes, &mut buffers.grouping, &mut buffers.store),
             Service::Check => check::ALL[contender].1(&self.bytes, &self.given),
+            Service::SearchLimited => search::LIMITED[contender].1(&self.bytes, self.limit, &mut buffers.grouping, &mut buffers.store),
+            Service::CheckLimited => check::LIMITED[contender].1(&self.bytes, self.limit, &self.given),
             Service::Read => read::ALL[contender].1(&self.bytes),
             Service::Evaluate => evaluate::ALL[contender].1(&self.bytes, &self.given),
             Service::Repack => repack::ALL[contender].1(&self.bytes, &mut buffers.out),
@@ -113,10 +133,10 @@ impl Job {
 
     pub fn answer(&self) -> &'static str {
         match (self.service, self.known.check, self.known.first) {
-            (Service::Search, 0, 1) => "met",
-            (Service::Search, 0, _) => "cannot",
-            (Service::Search, _, _) => "full",
-            (Service::Check, _, _) => "passes",
+            (Service::Search | Service::SearchLimited, 0, 1) => "met",
+            (Service::Search | Service::SearchLimited, 0, _) => "cannot",
+            (Service::Search | Service::SearchLimited, _, _) => "full",
+            (Service::Check | Service::CheckLimited, _, _) => "passes",
             (Service::Read, _, _) => "accepted",
             (Service::Evaluate, _, 0) => "all met",
             (Service::Evaluate, _, _) => "unmet",
@@ -127,7 +147,7 @@ impl Job {
     }
 }
 
-fn search_job(case: Case) -> Job {
+pub fn search_job(case: Case) -> Job {
     let known = match case.answer {
         Answer::Met => answered(1, case.nodes as u32, 0),
         Answer::Cannot => answered(2, case.nodes as u32, 0),
@@ -135,14 +155,14 @@ fn search_job(case: Case) -> Job {
     };
     let (bytes, units) = (case.sheet.bytes(), case.nodes.min(MOST));
     let Case { key, name, family, sheet, .. } = case;
-    Job { service: Service::Search, key, name, family, sheet, bytes, given: Vec::new(), units, known }
+    Job { service: Service::Search, key, name, family, sheet, bytes, given: Vec::new(), limit: 0, units, known }
 }
 
-fn check_job(key: String, name: String, family: &'static str, sheet: Sheet, list: impl Fn(&[u8]) -> Vec<u8>) -> Job {
+pub fn check_job(key: String, name: String, family: &'static str, sheet: Sheet, list: impl Fn(&[u8]) -> Vec<u8>) -> Job {
     let bytes = sheet.bytes();
     let given = list(&bytes);
     let units = given.len() / 8;
-    Job { service: Service::Check, key, name, family, sheet, bytes, given, units, known: answered(0, 0, 0) }
+    Job { service: Service::Check, key, name, family, sheet, bytes, given, limit: 0, units, known: answered(0, 0, 0) }
 }
 
 /// The family of the search's own refutations. The tuned search makes them, since a set-up counts as many calls; they are compared with what the product writes.
@@ -189,7 +209,7 @@ fn check_jobs(wanted: &dyn Fn(&str) -> bool) -> Vec<Job> {
         let key = format!("splits-1024-{joins}");
         if wanted(&key) {
             let name = format!("1,024 splits above, {joins} join");
-            jobs.push(check_job(key, name, "slow list", families::long_condition(1023), |_| lists::deep(joins)));
+            jobs.push(check_job(key, name, "slow list", families::long_condition(1023), |_| lists::deep(lists::CHAIN, joins)));
         }
     }
     jobs.extend(ground_jobs(wanted));
@@ -212,7 +232,8 @@ fn sheet_jobs(service: Service, known: fn(&Sheet) -> Numbers) -> Vec<Job> {
     let withdrawn = families::half_withdrawn(families::random(1, 128, 4));
     let job = |key: &str, name: &str, sheet: &Sheet, bytes: Vec<u8>| {
         let (known, units) = (known(sheet), sheet.records());
-        Job { service, key: key.into(), name: name.into(), family: "sheet", sheet: sheet.clone(), bytes, given: Vec::new(), units, known }
+        let (key, name, sheet) = (key.into(), name.into(), sheet.clone());
+        Job { service, key, name, family: "sheet", sheet, bytes, given: Vec::new(), limit: 0, units, known }
     };
     vec![
         job("largest", "256 conditions of 4 terms, records in order", &largest, largest.bytes()),
@@ -236,6 +257,7 @@ fn evaluate_job(shape: Shape) -> Job {
         bytes: sheet.bytes(),
         sheet,
         given: first_true::grouping(),
+        limit: 0,
         units: if met { shape.conditions } else { 1 },
         known: answered(if met { 0 } else { 1 }, 0, 0),
     }
@@ -260,7 +282,7 @@ fn merge_answer(merged: &Sheet) -> Numbers {
 pub fn merge_job(key: String, name: String, sheets: &[Sheet; 2], [bytes, given]: [Vec<u8>; 2]) -> Job {
     let sheet = pairs::merged(sheets);
     let (units, known) = (sheets.iter().map(Sheet::records).sum(), merge_answer(&sheet));
-    Job { service: Service::Merge, key, name, family: "pair", sheet, bytes, given, units, known }
+    Job { service: Service::Merge, key, name, family: "pair", sheet, bytes, given, limit: 0, units, known }
 }
 
 fn pair_job(pair: Pair) -> Job {
@@ -273,6 +295,8 @@ pub fn of(service: Service, wanted: &dyn Fn(&str) -> bool) -> Vec<Job> {
     let jobs = match service {
         Service::Search => cases::all().into_iter().filter(|case| wanted(&case.key)).map(search_job).collect(),
         Service::Check => check_jobs(wanted),
+        Service::SearchLimited => limited_cases::searches(wanted),
+        Service::CheckLimited => limited_cases::checks(wanted),
         Service::Read => sheet_jobs(service, counts),
         Service::Evaluate => first_true::rows().into_iter().map(evaluate_job).chain([evaluate_zero_job()]).collect(),
         Service::Repack => sheet_jobs(service, packed_length),

@@ -11,6 +11,8 @@ mod families;
 mod first_true;
 mod instructions;
 mod jobs;
+mod limited_cases;
+mod limited_compare;
 mod lists;
 mod marks;
 mod merge;
@@ -33,6 +35,7 @@ mod stack;
 mod svg;
 mod tables;
 mod terms;
+mod window;
 mod z3;
 
 use std::process::ExitCode;

@@ -16,6 +16,10 @@ pub fn met() -> [u8; 8] {
     record(3, 0, 0)
 }
 
+pub fn clique() -> [u8; 8] {
+    record(4, 0, 0)
+}
+
 fn record(kind: u64, first: usize, second: usize) -> [u8; 8] {
     (kind | (first as u64) << 16 | (second as u64) << 32).to_le_bytes()
 }
@@ -23,6 +27,24 @@ fn record(kind: u64, first: usize, second: usize) -> [u8; 8] {
 /// A split's next: the record, counted from 1, where its apart branch begins.
 pub fn set_next(record: &mut [u8; 8], next: usize) {
     [record[6], record[7]] = (next as u16).to_le_bytes();
+}
+
+/// The most splits above a record of a list.
+#[cfg(test)]
+pub fn depth(list: &[u8]) -> usize {
+    let (mut path, mut most) = (Vec::new(), 0);
+    for record in list.chunks(8) {
+        if record[0] == 1 {
+            path.push(true);
+            most = most.max(path.len());
+            continue;
+        }
+        while path.last() == Some(&false) {
+            path.pop();
+        }
+        path.last_mut().into_iter().for_each(|same| *same = false);
+    }
+    most
 }
 
 /// The records that a search may write.

@@ -2,7 +2,7 @@
 use crate::jobs::{self, Buffers, Job, Service};
 use crate::rounds::{self, Plan};
 use crate::rows::{self, Row};
-use crate::{compare, instructions, merges, places, plots, sizes, stack, tables, z3};
+use crate::{compare, instructions, limited_compare, merges, places, plots, sizes, stack, tables, z3};
 use std::fs;
 use std::hint::black_box;
 use std::path::{Path, PathBuf};
@@ -38,13 +38,18 @@ fn compare_others() {
     compare::withdrawn_sheets();
     compare::random_sheets();
     compare::random_lists();
+    limited_compare::random_sheets();
+    limited_compare::random_lists();
     merges::random_pairs();
 }
 
 pub fn compare_all() {
     compare_others();
     let count = Service::ALL.into_iter().flat_map(compared).count();
-    println!("{count} inputs, 66 small and 200 random sheets, 2,000 random lists, 300 random pairs of sheets: all contenders agree");
+    println!(
+        "{count} inputs, 66 small and 200 random sheets, 2,000 random lists, 340 random sheets and 2,000 random lists under limits, 300 random pairs of \
+         sheets: all contenders agree"
+    );
 }
 
 /// Times the contenders of a job in turns.
@@ -193,6 +198,10 @@ pub fn write() {
         ("search instructions", tables::instructions(&rows, "search")),
         ("check times", tables::times(&rows, "check", "Record")),
         ("check instructions", tables::instructions(&rows, "check")),
+        ("limited search times", tables::times(&rows, "search_limited", "Node")),
+        ("limited search instructions", tables::instructions(&rows, "search_limited")),
+        ("limited check times", tables::times(&rows, "check_limited", "Record")),
+        ("limited check instructions", tables::instructions(&rows, "check_limited")),
         ("sizes", tables::plain(&load("sizes.tsv"))),
         ("read times", tables::times(&rows, "read", "Term record")),
         ("read instructions", tables::instructions(&rows, "read")),

@@ -1,5 +1,6 @@
 //! Sheets made to be slow: at many nodes hundreds of terms of the condition taken are false, and hundreds of pairs stand set apart. A long condition sets its
 //! pairs apart one after the other, one with "same" terms over lots of its own multiplies nodes, and one further has the terms that are false.
+use crate::families::from_zero;
 use crate::sheets::{Sheet, Term, apart, same};
 
 /// Which stands first: the condition that multiplies nodes, or the one whose pairs come to be set apart.
@@ -86,6 +87,15 @@ pub fn all_apart(apart_pairs: usize, width: usize, terms: usize) -> Sheet {
 pub fn few_false(apart_pairs: usize, r: usize, width: usize, few: usize, latest: bool) -> Sheet {
     let lead = |pairs: &[(usize, usize)]| if latest { again(&pairs[pairs.len() - few..], few) } else { again(&pairs[..few], few) };
     steady(apart_pairs, lead, r, width, |_| vec![apart(1, 1)])
+}
+
+/// For a limit one below `classes`: the lots from 0 on, so many, come to be apart pairwise, and below stand `r` conditions that multiply nodes, of `width`
+/// terms each. Where they are met there is a clique under all pairs.
+pub fn cliques(classes: usize, r: usize, width: usize) -> Sheet {
+    let mut sheet = steady(classes * (classes - 1) / 2, |_| Vec::new(), r, width, |_| Vec::new());
+    // The last condition has no terms here, and takes no record.
+    sheet.conditions.pop();
+    from_zero(sheet)
 }
 
 /// As `product`, but the pairs lie between classes of `members` lots, which conditions of one "same" term join first: the long condition names the last lot of each class and

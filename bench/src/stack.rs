@@ -67,7 +67,7 @@ fn of_merges(thread: usize) -> Vec<(String, usize)> {
 /// The stack of each search, checker, evaluator, repacker and merger, by name.
 pub fn all() -> Vec<(String, usize)> {
     let thread = used(&mut || {});
-    let (sheet, list) = (families::long_condition(1023).bytes(), lists::deep(127));
+    let (sheet, list) = (families::long_condition(1023).bytes(), lists::deep(lists::CHAIN, 127));
     let chain = families::longest_chain();
     let (mixed, packed) = (chain.bytes_shuffled(1), packed_length(&chain));
     let last_true = Shape { conditions: 1, terms: 1024, place: Some(1024) }.sheet().bytes_shuffled(1);
@@ -96,7 +96,7 @@ pub fn all() -> Vec<(String, usize)> {
 
 /// The product's search and check once on the program's own stack, so that a limit set by the shell is tried.
 pub fn on_own() {
-    let (sheet, list) = (families::long_condition(1023).bytes(), lists::deep(127));
+    let (sheet, list) = (families::long_condition(1023).bytes(), lists::deep(lists::CHAIN, 127));
     let mut buffers = Buffers::new();
     assert!(search::ALL[0].1(&sheet, &mut buffers.grouping, &mut buffers.store) == answered(2, 2047, 0));
     black_box(&buffers);

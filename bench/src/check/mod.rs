@@ -3,11 +3,14 @@
 pub mod plain;
 pub mod tuned;
 
-use crate::records::{MOST, answered, refused};
-use crate::terms::{header, number};
+use crate::records::{self, MOST, answered, refused};
+use crate::terms::{LOTS, header, number};
 use lihumbay::raw::Numbers;
 
 pub type Check = fn(&[u8], &[u8]) -> Numbers;
+
+/// A checker that is given a limit behind the sheet.
+pub type Limited = fn(&[u8], u32, &[u8]) -> Numbers;
 
 /// The splits above a record, with the branch taken at each.
 trait Path {
@@ -16,6 +19,8 @@ trait Path {
     fn push(&mut self, split: Split);
     /// Whether a condition, which counts from 0, isn't withdrawn and has only false terms.
     fn refutes(&mut self, condition: usize) -> bool;
+    /// Whether more classes are left than a limit admits, and those that count are all marked apart.
+    fn is_clique(&mut self, limit: usize) -> bool;
     /// The nearest split still in its same branch is turned to its apart branch; those above it are dropped.
     fn turn(&mut self) -> Option<Split>;
 }
@@ -29,42 +34,73 @@ struct Split {
     b: u8,
 }
 
-const MOST_SPLITS: usize = 1024;
+/// What a list is walked for: the sheet's lots and conditions, the limit on classes if there is one, and the splits that may stand above a ground.
+struct Walk {
+    lots: usize,
+    conditions: usize,
+    limit: Option<usize>,
+    most_splits: usize,
+}
 
-/// One record, which counts from 1: the answer where the walk ends with it.
-fn step(path: &mut impl Path, lots: usize, conditions: usize, record: &[u8; 8], r: usize, last: bool) -> Option<Numbers> {
-    let (first, second, next) = (number(record, 2), number(record, 4), number(record, 6));
-    match (record[0], record[1]) {
-        (1, 0) if first <= lots && second <= lots => {
-            if path.depth() == MOST_SPLITS {
-                return Some(refused(15, r));
+impl Walk {
+    /// One record, which counts from 1: the answer where the walk ends with it. It is part of the loop over the records.
+    #[inline(always)]
+    fn step(&self, path: &mut impl Path, record: &[u8; 8], r: usize, last: bool) -> Option<Numbers> {
+        let (first, second, next) = (number(record, 2), number(record, 4), number(record, 6));
+        match (record[0], record[1]) {
+            (1, 0) if first <= self.lots && second <= self.lots => {
+                if path.depth() == self.most_splits {
+                    return Some(refused(15, r));
+                }
+                path.push(Split { number: r, next, a: first as u8, b: second as u8 });
+                None
             }
-            path.push(Split { number: r, next, a: first as u8, b: second as u8 });
-            None
+            (2, 0) if (1..=self.conditions).contains(&first) && second == 0 && next == 0 => {
+                if !path.refutes(first - 1) {
+                    return Some(refused(12, r));
+                }
+                after(path, r, last)
+            }
+            _ => self.clique(path, record, r, last),
         }
-        (2, 0) if (1..=conditions).contains(&first) && second == 0 && next == 0 => {
-            if !path.refutes(first - 1) {
-                return Some(refused(12, r));
+    }
+
+    /// A record that is neither split nor ground. It stands apart, so that lists without cliques are walked as if there were none.
+    #[inline(never)]
+    fn clique(&self, path: &mut impl Path, record: &[u8; 8], r: usize, last: bool) -> Option<Numbers> {
+        match self.limit {
+            Some(limit) if *record == records::clique() => {
+                if !path.is_clique(limit) {
+                    return Some(refused(12, r));
+                }
+                after(path, r, last)
             }
-            match path.turn() {
-                Some(split) if split.next != r + 1 => Some(refused(13, split.number)),
-                Some(_) => None,
-                None if last => Some(answered(0, 0, 0)),
-                None => Some(refused(14, r + 1)),
-            }
+            _ => Some(refused(11, r)),
         }
-        _ => Some(refused(11, r)),
     }
 }
 
-fn walk(path: &mut impl Path, sheet: &[u8], list: &[u8]) -> Numbers {
+/// What comes after a ground or a clique that passes.
+#[inline(always)]
+fn after(path: &mut impl Path, r: usize, last: bool) -> Option<Numbers> {
+    match path.turn() {
+        Some(split) if split.next != r + 1 => Some(refused(13, split.number)),
+        Some(_) => None,
+        None if last => Some(answered(0, 0, 0)),
+        None => Some(refused(14, r + 1)),
+    }
+}
+
+fn walk(path: &mut impl Path, sheet: &[u8], limit: Option<u32>, list: &[u8]) -> Numbers {
     let (records, rest) = list.as_chunks();
     if records.is_empty() || !rest.is_empty() || records.len() > MOST {
         return refused(10, 0);
     }
     let (lots, conditions, _) = header(sheet);
+    let most_splits = if limit.is_some() { LOTS * (LOTS - 1) / 2 } else { 1024 };
+    let walk = Walk { lots, conditions, limit: limit.map(|limit| limit as usize), most_splits };
     for (i, record) in records.iter().enumerate() {
-        if let Some(answer) = step(path, lots, conditions, record, i + 1, i + 1 == records.len()) {
+        if let Some(answer) = walk.step(path, record, i + 1, i + 1 == records.len()) {
             return answer;
         }
     }
@@ -77,6 +113,26 @@ fn tuned_checked(sheet: &[u8], list: &[u8]) -> Numbers {
     if reading.check != 0 { reading } else { tuned::check(sheet, list) }
 }
 
+/// The tuned checker under a limit behind the tuned reader and check 20.
+fn tuned_limited_checked(sheet: &[u8], limit: u32, list: &[u8]) -> Numbers {
+    let reading = crate::read::tuned::read(sheet);
+    if reading.check != 0 {
+        return reading;
+    }
+    if !(1..=129).contains(&limit) {
+        return refused(20, limit as usize);
+    }
+    tuned::check_limited(sheet, limit, list)
+}
+
 /// The checkers by name; the first is the product's.
 pub const ALL: [(&str, Check); 4] =
     [("product", lihumbay::raw::check), ("plain", plain::check), ("tuned", tuned::check), ("tuned, checked", tuned_checked)];
+
+/// The checkers under a limit.
+pub const LIMITED: [(&str, Limited); 4] = [
+    ("product", lihumbay::raw::check_limited),
+    ("plain", plain::check_limited),
+    ("tuned", tuned::check_limited),
+    ("tuned, checked", tuned_limited_checked),
+];

@@ -1,10 +1,11 @@
-//! The search of document 01 word for word: each node looks at every condition from the first on, passes over the withdrawn ones, and gives each term its value
-//! by the node's classes and marks. It doesn't check the sheet. There are two, which differ in their marks alone.
+//! The search of document 01 word for word, and document 02's under a limit: each node looks at every condition from the first on, passes over the withdrawn
+//! ones, and gives each term its value by the node's classes and marks; where none is taken and classes are limited, it looks at each pair of those that count.
+//! It doesn't check the sheet. There are two of each, which differ in their marks alone.
 use crate::marks::{self, ClassOf};
 use crate::records;
 use crate::search::node_marks::{NodeMarks, Stamped, Undone};
 use crate::search::{End, answer};
-use crate::terms::{self, Term};
+use crate::terms::{self, LOTS, Term};
 use lihumbay::raw::Numbers;
 
 /// The smallest lot of each lot's class.
@@ -29,15 +30,18 @@ enum Value {
     Open,
 }
 
-/// What the node rule makes of a node; a ground and a split name their condition, which counts from 0.
+/// What the node rule makes of a node; a ground names its condition, which counts from 0, and a split its lots.
 enum Node {
     Met,
     Ground(usize),
-    Split(Term),
+    Clique,
+    Split(u8, u8),
 }
 
 struct Search<'a, Marks> {
     conditions: Vec<Vec<Term>>,
+    /// The most classes, where they are limited.
+    limit: Option<usize>,
     marks: Marks,
     grouping: &'a mut [u8],
     records: &'a mut [[u8; 8]],
@@ -78,10 +82,26 @@ impl<Marks: NodeMarks> Search<'_, Marks> {
             match self.first_open(classes, terms) {
                 None => {}
                 Some(None) => return Node::Ground(c),
-                Some(Some(term)) => return Node::Split(term),
+                Some(Some(term)) => return Node::Split(term.a, term.b),
             }
         }
-        Node::Met
+        self.limit.map_or(Node::Met, |limit| self.limited_node(classes, limit))
+    }
+
+    /// The node where no condition is taken and classes are limited. Those that count are the first, one more than the limit, by their smallest lots.
+    fn limited_node(&self, classes: &Classes, limit: usize) -> Node {
+        let (mut smallest, mut count) = ([0; LOTS], 0);
+        for lot in (0..=self.grouping.len() as u8).filter(|&lot| classes.of(lot) == lot) {
+            smallest[count] = lot;
+            count += 1;
+        }
+        let Some(counted) = smallest[..count].get(..=limit) else { return Node::Met };
+        for (i, &x) in counted.iter().enumerate() {
+            if let Some(&y) = counted[i + 1..].iter().find(|&&y| !self.marks.between(x, y)) {
+                return Node::Split(x, y);
+            }
+        }
+        Node::Clique
     }
 
     /// The node with its marks.
@@ -113,15 +133,19 @@ impl<Marks: NodeMarks> Search<'_, Marks> {
                 self.write(records::ground(c + 1));
                 End::Cannot
             }
-            Node::Split(term) => self.branches(classes, term),
+            Node::Clique => {
+                self.write(records::clique());
+                End::Cannot
+            }
+            Node::Split(a, b) => self.branches(classes, a, b),
         }
     }
 
-    fn branches(&mut self, classes: &Classes, term: Term) -> End {
+    fn branches(&mut self, classes: &Classes, a: u8, b: u8) -> End {
         let here = self.count;
-        self.write(records::split(usize::from(term.a), usize::from(term.b)));
-        let join = self.marks.join(classes.of(term.a), classes.of(term.b));
-        let end = self.visit(&classes.joined(term.a, term.b));
+        self.write(records::split(usize::from(a), usize::from(b)));
+        let join = self.marks.join(classes.of(a), classes.of(b));
+        let end = self.visit(&classes.joined(a, b));
         self.marks.undo_join(join);
         if end != End::Cannot {
             return end;
@@ -130,17 +154,18 @@ impl<Marks: NodeMarks> Search<'_, Marks> {
             return End::Full;
         }
         records::set_next(&mut self.records[here], self.count + 1);
-        self.marks.set_apart(&classes.0, term.a, term.b);
+        self.marks.set_apart(&classes.0, a, b);
         let end = self.visit(classes);
-        self.marks.undo_apart(&classes.0, term.a, term.b);
+        self.marks.undo_apart(&classes.0, a, b);
         end
     }
 }
 
-fn search_by<Marks: NodeMarks>(sheet: &[u8], grouping: &mut [u8], store: &mut [u8]) -> Numbers {
+fn search_by<Marks: NodeMarks>(sheet: &[u8], limit: Option<u32>, grouping: &mut [u8], store: &mut [u8]) -> Numbers {
     let (lots, conditions, _) = terms::header(sheet);
     let mut search = Search {
         conditions: (0..conditions).map(|c| terms::chain(sheet, c).collect()).collect(),
+        limit: limit.map(|limit| limit as usize),
         marks: Marks::new(lots),
         grouping: &mut grouping[..lots],
         records: records::of_store(store),
@@ -153,10 +178,18 @@ fn search_by<Marks: NodeMarks>(sheet: &[u8], grouping: &mut [u8], store: &mut [u
 
 /// With marks that are set and cleared at each node.
 pub fn search(sheet: &[u8], grouping: &mut [u8], store: &mut [u8]) -> Numbers {
-    search_by::<Stamped>(sheet, grouping, store)
+    search_by::<Stamped>(sheet, None, grouping, store)
+}
+
+pub fn search_limited(sheet: &[u8], limit: u32, grouping: &mut [u8], store: &mut [u8]) -> Numbers {
+    search_by::<Stamped>(sheet, Some(limit), grouping, store)
 }
 
 /// With marks that are kept along the path.
 pub fn search_undone(sheet: &[u8], grouping: &mut [u8], store: &mut [u8]) -> Numbers {
-    search_by::<Undone>(sheet, grouping, store)
+    search_by::<Undone>(sheet, None, grouping, store)
+}
+
+pub fn search_limited_undone(sheet: &[u8], limit: u32, grouping: &mut [u8], store: &mut [u8]) -> Numbers {
+    search_by::<Undone>(sheet, Some(limit), grouping, store)
 }

@@ -4,8 +4,7 @@
 use crate::classes::{Classes, Join, lots_of};
 use crate::records;
 use crate::search::layout::{Conditions, Layout, insert, remove};
-use crate::search::{End, answer};
-use crate::terms;
+use crate::search::{End, answer, write_grouping};
 use lihumbay::raw::Numbers;
 
 /// A split on the path: its record and its term, which branch it is in, and what is needed to undo the same branch.
@@ -19,24 +18,34 @@ struct Split {
     join: Join,
 }
 
-struct Search<'a> {
-    layout: Layout,
-    classes: Classes,
+/// What is known at a node, which the search under a limit knows too, but for the path.
+pub(super) struct Search<'a> {
+    pub(super) layout: Layout,
+    pub(super) classes: Classes,
     /// The conditions with a "same" term whose lots share a class.
-    passed: Conditions,
+    pub(super) passed: Conditions,
     /// The conditions all of whose "apart" terms share a class, the number of those that don't, and the conditions of those that came to share one, in order.
     ready: Conditions,
     left: [u16; 256],
-    trail: Vec<u8>,
+    pub(super) trail: Vec<u8>,
     path: Vec<Split>,
-    records: &'a mut [[u8; 8]],
-    count: usize,
+    pub(super) records: &'a mut [[u8; 8]],
+    pub(super) count: usize,
 }
 
-impl Search<'_> {
+impl<'a> Search<'a> {
+    /// With no decision, for records to be written.
+    #[inline]
+    pub(super) fn of(sheet: &[u8], records: &'a mut [[u8; 8]]) -> Search<'a> {
+        let layout = Layout::of(sheet);
+        let (passed, ready, left) = (layout.passed, layout.ready, layout.left);
+        let (trail, path) = (Vec::with_capacity(layout.aparts.len()), Vec::with_capacity(64));
+        Search { layout, classes: Classes::new(), passed, ready, left, trail, path, records, count: 0 }
+    }
+
     /// The condition taken: the lowest without a term that is true or open and "apart".
     #[inline]
-    fn taken(&self) -> Option<u8> {
+    pub(super) fn taken(&self) -> Option<u8> {
         for i in 0..4 {
             let free = self.ready[i] & !self.passed[i];
             if free != 0 {
@@ -48,7 +57,7 @@ impl Search<'_> {
 
     /// The first open term from a term on. In the taken condition no "apart" term is open and no "same" term is true, so that one which isn't marked is open.
     #[inline]
-    fn first_open(&self, condition: u8, from: usize) -> Option<usize> {
+    pub(super) fn first_open(&self, condition: u8, from: usize) -> Option<usize> {
         let end = usize::from(self.layout.begins[usize::from(condition) + 1]);
         let rest = self.layout.sames.get(from..end)?;
         let open = if self.classes.zero_marked() { self.not_marked::<true>(rest) } else { self.not_marked::<false>(rest) };
@@ -83,7 +92,7 @@ impl Search<'_> {
 
     /// Joins the smaller class to the larger. Where that is lot 0's, lot 0 is among its lots without being in a set.
     #[inline]
-    fn join(&mut self, a: u8, b: u8) -> Join {
+    pub(super) fn join(&mut self, a: u8, b: u8) -> Join {
         let (x, y) = (self.classes.of(a), self.classes.of(b));
         let (from, into) = self.classes.by_size(x, y);
         let (own, others) = (self.classes.members(from), self.classes.members(into));
@@ -100,7 +109,7 @@ impl Search<'_> {
 
     /// Undoes the same branch of a split.
     #[inline]
-    fn undo(&mut self, join: Join, passed: Conditions, trail: usize) {
+    pub(super) fn undo(&mut self, join: Join, passed: Conditions, trail: usize) {
         self.passed = passed;
         while self.trail.len() > trail {
             let Some(condition) = self.trail.pop() else { return };
@@ -169,17 +178,10 @@ impl Search<'_> {
 }
 
 pub fn search(sheet: &[u8], grouping: &mut [u8], store: &mut [u8]) -> Numbers {
-    let layout = Layout::of(sheet);
-    let (passed, ready, left) = (layout.passed, layout.ready, layout.left);
-    let records = records::of_store(store);
-    let (trail, path) = (Vec::with_capacity(layout.aparts.len()), Vec::with_capacity(64));
-    let mut search = Search { layout, classes: Classes::new(), passed, ready, left, trail, path, records, count: 0 };
+    let mut search = Search::of(sheet, records::of_store(store));
     let end = search.run();
     if end == End::Met {
-        let (lots, _, _) = terms::header(sheet);
-        for (lot, byte) in (1..).zip(&mut grouping[..lots]) {
-            *byte = search.classes.smallest(lot);
-        }
+        write_grouping(sheet, grouping, &search.classes);
     }
     let count = search.count;
     answer(end, search.records, count)
