@@ -1,10 +1,12 @@
-//! How much stack a search takes on the longest path that it can have, 1,023 splits, a check on the longest that a list can have, 1,024, an evaluation and a
-//! repacking on the longest chain, and a merge on as many conditions as can come in and stay, all of one digest: the call runs on a painted stack of 8 MB, and
-//! what was painted over is counted.
+//! How much stack a search takes on the longest path that it can have, 1,023 splits, a check on the longest that a list can have, 1,024 and under a limit
+//! 8,256, an evaluation and a repacking on the longest chain, and a merge on as many conditions as can come in and stay, all of one digest: the call runs on a
+//! painted stack of 8 MB, and what was painted over is counted. Of a limited search no sheet is known whose path is as long as it may be, 8,256 splits: what
+//! that would take follows from what a split takes on shorter ones.
 use crate::first_true::{self, Shape};
 use crate::jobs::{self, Buffers, Service, packed_length};
 use crate::records::answered;
 use crate::{check, evaluate, families, lists, merge, repack, search};
+use lihumbay::raw::Numbers;
 use std::alloc::{Layout, alloc, dealloc};
 use std::ffi::c_void;
 use std::hint::black_box;
@@ -64,6 +66,56 @@ fn of_merges(thread: usize) -> Vec<(String, usize)> {
     merge::ALL.map(one).into()
 }
 
+/// A sheet whose limited search has a long path: how many splits that has, and the answer.
+struct Path {
+    sheet: Vec<u8>,
+    limit: u32,
+    splits: usize,
+    known: Numbers,
+}
+
+/// Splits on the terms of a condition, all but the last.
+fn of_terms(terms: usize) -> Path {
+    Path { sheet: families::long_limited(terms).bytes(), limit: 1, splits: terms + 1, known: answered(2, 4 * terms as u32 + 1, 0) }
+}
+
+/// Splits on pairs of classes that the limit takes.
+fn of_pairs(classes: usize) -> Path {
+    let (sheet, splits) = (families::from_zero(families::all_apart(classes, classes)), classes * (classes - 1) / 2);
+    Path { sheet: sheet.bytes(), limit: classes as u32 - 1, splits, known: answered(2, 2 * splits as u32 + 1, 0) }
+}
+
+fn of_path(search: search::Limited, path: &Path) -> usize {
+    let mut buffers = Buffers::new();
+    used(&mut || assert!(search(&path.sheet, path.limit, &mut buffers.grouping, &mut buffers.store) == path.known))
+}
+
+/// The most splits on a path of a limited search: as many as there are pairs of lots 0 to 128.
+const MOST_SPLITS: usize = 8256;
+
+/// What a path of that many splits would take, by two paths of one kind.
+fn of_longest(search: search::Limited, [short, long]: [Path; 2]) -> usize {
+    let (less, more) = (of_path(search, &short), of_path(search, &long));
+    let split = (more - less).div_ceil(long.splits - short.splits);
+    more + split * (MOST_SPLITS - long.splits)
+}
+
+/// The stack of each limited search and checker, by name, and of the product's search on other paths.
+fn of_limited(thread: usize) -> Vec<(String, usize)> {
+    let searches = search::LIMITED.map(|(name, search)| (format!("search_limited, {name}"), of_path(search, &of_terms(1023)) - thread));
+    let product = search::LIMITED[0].1;
+    let on_pairs = ("search_limited, product, 253 splits on pairs".to_string(), of_path(product, &of_pairs(23)) - thread);
+    let longest = of_longest(product, [511, 1023].map(of_terms)).max(of_longest(product, [12, 23].map(of_pairs)));
+    let longest = ("search_limited, product, 8,256 splits, by arithmetic".to_string(), longest - thread);
+    let sheet = families::long_condition(1023).bytes();
+    let walks = [(1, lists::deep(lists::LIMITED_CHAIN, 127)), (127, lists::cliques(128, 2000, lists::Between::Nothing))];
+    let checks = check::LIMITED.map(|(name, check)| {
+        let bytes = walks.iter().map(|(limit, list)| used(&mut || assert!(check(&sheet, *limit, list) == answered(0, 0, 0))));
+        (format!("check_limited, {name}"), bytes.max().unwrap_or(thread) - thread)
+    });
+    searches.into_iter().chain([on_pairs, longest]).chain(checks).collect()
+}
+
 /// The stack of each search, checker, evaluator, repacker and merger, by name.
 pub fn all() -> Vec<(String, usize)> {
     let thread = used(&mut || {});
@@ -81,6 +133,7 @@ pub fn all() -> Vec<(String, usize)> {
     for (name, check) in check::ALL {
         rows.push((format!("check, {name}"), used(&mut || assert!(check(&sheet, &list).check == 0)) - thread));
     }
+    rows.extend(of_limited(thread));
     for (name, evaluate) in evaluate::ALL {
         let bytes = used(&mut || assert!(evaluate(&last_true, &grouping) == answered(0, 0, 0)));
         rows.push((format!("evaluate, {name}"), bytes - thread));
@@ -94,11 +147,30 @@ pub fn all() -> Vec<(String, usize)> {
     rows
 }
 
-/// The product's search and check once on the program's own stack, so that a limit set by the shell is tried.
+/// The product's search and check once on the program's own stack, without a limit on classes and with one, so that a limit set by the shell is tried.
 pub fn on_own() {
     let (sheet, list) = (families::long_condition(1023).bytes(), lists::deep(lists::CHAIN, 127));
     let mut buffers = Buffers::new();
     assert!(search::ALL[0].1(&sheet, &mut buffers.grouping, &mut buffers.store) == answered(2, 2047, 0));
     black_box(&buffers);
     assert!(check::ALL[0].1(&sheet, &list).check == 0);
+    let path = of_terms(1023);
+    assert!(search::LIMITED[0].1(&path.sheet, path.limit, &mut buffers.grouping, &mut buffers.store) == path.known);
+    black_box(&buffers);
+    assert!(check::LIMITED[0].1(&sheet, 1, &lists::deep(lists::LIMITED_CHAIN, 127)).check == 0);
+}
+
+#[cfg(test)]
+mod tests {
+    use super::*;
+    use crate::records::depth;
+
+    #[test]
+    fn limited_searches_have_paths_as_long_as_is_said() {
+        for path in [of_terms(511), of_terms(1023), of_pairs(12), of_pairs(23)] {
+            let mut buffers = Buffers::new();
+            let answer = search::tuned_limited::search(&path.sheet, path.limit, &mut buffers.grouping, &mut buffers.store);
+            assert!(answer == path.known && depth(&buffers.store[..8 * answer.second as usize]) == path.splits);
+        }
+    }
 }
