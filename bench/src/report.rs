@@ -111,14 +111,14 @@ fn z3_time(seconds: Option<f64>) -> String {
     }
 }
 
-/// z3 on the sheets of the searches, beside the product's time.
+/// z3 on the sheets of the searches, without a limit on classes and with one, beside the product's time.
 fn measure_z3(rows: &[Row]) -> String {
     let folder = root().join("target/bench");
     fs::create_dir_all(&folder).expect("target/bench can be made");
     let mut text = String::from("Sheet\tAnswer\tProduct, ms\tz3, ms\tz3 says\n");
-    for job in jobs::of(Service::Search, &|_| true) {
+    for job in [Service::Search, Service::SearchLimited].into_iter().flat_map(|service| jobs::of(service, &|_| true)) {
         let Some(solved) = z3::solve(&folder, &job) else { return String::new() };
-        let own = rows.iter().find(|row| row.service == "search" && row.key == job.key && row.contender == "product");
+        let own = rows.iter().find(|row| row.service == job.service.word() && row.key == job.key && row.contender == "product");
         let product = own.map_or(0.0, |row| row.time.least * row.units as f64 / 1e6);
         text += &format!("{}\t{}\t{product:.2}\t{}\t{}\n", job.name, job.answer(), z3_time(solved.seconds), solved.answer);
     }

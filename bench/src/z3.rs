@@ -22,21 +22,31 @@ fn term(term: &Term) -> String {
     }
 }
 
+/// That one of these is true; of none, nothing.
+fn one_of(terms: &[String]) -> String {
+    match terms {
+        [] => "(assert true)\n".into(),
+        [term] => format!("(assert {term})\n"),
+        _ => format!("(assert (or {}))\n", terms.join(" ")),
+    }
+}
+
 /// A sheet as a script: lots are constants of a sort of their own, and a withdrawn condition is true. Lot 0 is a constant like the others: only which
-/// numbers are equal counts, and any of them may be called 0.
-fn script(sheet: &Sheet) -> String {
+/// numbers are equal counts, and any of them may be called 0. Under a limit there are so many constants more, and each lot is one of these.
+fn script(sheet: &Sheet, limit: Option<u32>) -> String {
     let mut text = String::from("(set-logic QF_UF)\n(declare-sort L 0)\n");
-    let lowest = if sheet.names_zero() { 0 } else { 1 };
+    let lowest = if sheet.names_zero() || limit.is_some() { 0 } else { 1 };
     for lot in lowest..=sheet.lots {
         text += &format!("(declare-const l{lot} L)\n");
     }
+    for number in 0..limit.unwrap_or(0) {
+        text += &format!("(declare-const c{number} L)\n");
+    }
+    for (limit, lot) in limit.into_iter().flat_map(|limit| (lowest..=sheet.lots).map(move |lot| (limit, lot))) {
+        text += &one_of(&(0..limit).map(|number| format!("(= l{lot} c{number})")).collect::<Vec<_>>());
+    }
     for condition in &sheet.conditions {
-        let terms: Vec<String> = condition.terms.iter().map(term).collect();
-        text += &match terms.len() {
-            0 => "(assert true)\n".to_string(),
-            1 => format!("(assert {})\n", terms[0]),
-            _ => format!("(assert (or {}))\n", terms.join(" ")),
-        };
+        text += &one_of(&condition.terms.iter().map(term).collect::<Vec<_>>());
     }
     text + "(check-sat)\n"
 }
@@ -64,7 +74,7 @@ fn least(file: &Path) -> Option<(String, f64)> {
 pub fn solve(folder: &Path, job: &Job) -> Option<Solved> {
     let (empty, file) = (folder.join("empty.smt2"), folder.join(format!("{}.smt2", job.key)));
     fs::write(&empty, "(set-logic QF_UF)\n(check-sat)\n").ok()?;
-    fs::write(&file, script(&job.sheet)).ok()?;
+    fs::write(&file, script(&job.sheet, (job.limit > 0).then_some(job.limit))).ok()?;
     let (_, start_up) = least(&empty)?;
     let (answer, seconds) = least(&file)?;
     if answer == "timeout" {
@@ -85,13 +95,23 @@ mod tests {
         let mut sheet = Sheet::new(1);
         sheet.withdrawn(2);
         sheet.condition([apart(1, 1)]);
-        assert!(script(&sheet).ends_with("(assert true)\n(assert (not (= l1 l1)))\n(check-sat)\n"));
+        assert!(script(&sheet, None).ends_with("(assert true)\n(assert (not (= l1 l1)))\n(check-sat)\n"));
     }
 
     #[test]
     fn lot_zero_is_declared_where_it_is_named() {
         let mut sheet = Sheet::new(1);
         sheet.condition([same(0, 1)]);
-        assert!(script(&sheet).ends_with("(declare-const l0 L)\n(declare-const l1 L)\n(assert (= l0 l1))\n(check-sat)\n"));
+        assert!(script(&sheet, None).ends_with("(declare-const l0 L)\n(declare-const l1 L)\n(assert (= l0 l1))\n(check-sat)\n"));
+    }
+
+    #[test]
+    fn each_lot_has_one_of_the_numbers_under_a_limit() {
+        let mut sheet = Sheet::new(1);
+        sheet.condition([apart(1, 1)]);
+        let lots = "(declare-const l0 L)\n(declare-const l1 L)\n(declare-const c0 L)\n(declare-const c1 L)\n";
+        let numbers = "(assert (or (= l0 c0) (= l0 c1)))\n(assert (or (= l1 c0) (= l1 c1)))\n(assert (not (= l1 l1)))\n(check-sat)\n";
+        assert!(script(&sheet, Some(2)).ends_with(&[lots, numbers].concat()));
+        assert!(script(&sheet, Some(1)).contains("(assert (= l1 c0))\n"));
     }
 }
