@@ -1,6 +1,6 @@
 #!/bin/sh
 # Measures the proved services: builds them, compares every contender, times, counts instructions, and writes data, plots and the tables of
-# docs/PERFORMANCE.md. It takes some seventeen minutes; `bench/run.sh quick` takes less, and its times are worth less.
+# docs/PERFORMANCE.md. It takes some 30 minutes; `bench/run.sh quick` takes less, and its times are worth less.
 set -eu
 cd "$(dirname "$0")/.."
 cargo build --release -p measure
