@@ -53,6 +53,6 @@ pub fn numbers(answer: &Result<Answer, Refusal>) -> [u32; 4] {
         Ok(Answer::Written { length }) => [0, length, 0, 0],
         Err(Refusal { check, place }) => [check as usize, place, 0, 0],
     };
-    let narrow = |number: usize| u32::try_from(number).expect("no number of an answer is above 65,536");
+    let narrow = |number: usize| u32::try_from(number).expect("no number of an answer has more than 32 bits");
     [narrow(check), narrow(first), narrow(second), narrow(third)]
 }

@@ -20,6 +20,11 @@ pub const NODE_LENGTH: usize = 8;
 pub const MOST_NODES: usize = 65_535;
 /// Check 15: "1,024 splits stand above it"
 pub const MOST_SPLITS_ABOVE: usize = 1024;
+/// Document 02, of the checker that is given a limit: "its depth check 15 then stands at 8,256 splits"
+pub const MOST_SPLITS_ABOVE_LIMITED: usize = 8256;
+/// Document 02: "a cap g from 1 to 129"
+pub const LEAST_LIMIT: usize = 1;
+pub const GREATEST_LIMIT: usize = 129;
 /// "sign (one byte, 1 "same", 2 "apart")"
 pub const SAME: u8 = 1;
 pub const APART: u8 = 2;
@@ -27,3 +32,5 @@ pub const APART: u8 = 2;
 pub const SPLIT: u8 = 1;
 pub const GROUND: u8 = 2;
 pub const MET: u8 = 3;
+/// Document 02: "the node is a crowd: kind 4"
+pub const CLIQUE: u8 = 4;

@@ -1,4 +1,5 @@
-//! One node of the search: decisions, classes, the truth of a term, and what the node is.
+//! One node of the search: decisions, classes, the truth of a term, and what the node is, without a limit on the classes or with one.
+use crate::class_limit::{Limit, Limited};
 use crate::limits::ZERO_LOT;
 use crate::sheet::{Lot, Sheet, Sign, Term, is_withdrawn};
 
@@ -66,11 +67,17 @@ impl Known {
         self.class[lot]
     }
 
+    /// The smallest lots of the classes, rising: "each is known by its smallest lot". They are the classes of lots 0 to n, named in a term or not, so that lot
+    /// 0's is always the first.
+    pub fn classes(&self) -> Vec<Lot> {
+        (ZERO_LOT..=self.lots).filter(|&lot| self.smallest(lot) == lot).collect()
+    }
+
     fn share(&self, a: Lot, b: Lot) -> bool {
         self.class[a] == self.class[b]
     }
 
-    fn marked_apart(&self, a: Lot, b: Lot) -> bool {
+    pub fn marked_apart(&self, a: Lot, b: Lot) -> bool {
         self.marked[self.class[a] * (self.lots + 1) + self.class[b]]
     }
 
@@ -112,18 +119,28 @@ pub enum Node {
     /// The condition's number.
     Ground(usize),
     Split(Lot, Lot),
+    Clique,
 }
 
 /// "The node takes the lowest-numbered condition that has no true term and no open "apart" term."
-pub fn node(sheet: &Sheet, known: &Known) -> Node {
+pub fn node(sheet: &Sheet, limit: Limit, known: &Known) -> Node {
     let Some(taken) = sheet.conditions.iter().position(|condition| known.is_taken(condition)) else {
-        // "No such condition: the node is *met*."
-        return Node::Met;
+        return no_condition_taken(limit, known);
     };
     match sheet.conditions[taken].iter().find(|term| known.truth(term) == Truth::Open) {
         // "It has no open term: the node is a *ground*, naming the condition."
         None => Node::Ground(taken + 1),
         // "Otherwise it is a *split* on its first open term (a "same" term), lots as written in the term"
         Some(term) => Node::Split(term.a, term.b),
+    }
+}
+
+/// Without a limit: "No such condition: the node is *met*." With one, document 02: "When no condition is taken and at most g consignments are left, the node is
+/// met. With more, .. split on their first pair not marked apart, .. recorded in that order. If all are marked, the node is a crowd".
+fn no_condition_taken(limit: Limit, known: &Known) -> Node {
+    match limit.map(|limit| Limited::of(limit, known)) {
+        None | Some(Limited::Within) => Node::Met,
+        Some(Limited::Pair(lower, higher)) => Node::Split(lower, higher),
+        Some(Limited::Clique) => Node::Clique,
     }
 }

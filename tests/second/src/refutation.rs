@@ -1,5 +1,6 @@
-//! The checker of refutations from any hand: checks 10 to 15.
+//! The checker of refutations from any hand, without a limit on the classes and with one: checks 10 to 15.
 use crate::answer::{Answer, Refusal, refuse};
+use crate::class_limit::{Limit, Limited, admitted};
 use crate::limits::*;
 use crate::node::{Decision, Known};
 use crate::reader::accept;
@@ -8,9 +9,19 @@ use crate::store::Record;
 
 /// "The checker takes a sheet and a list of store records, kinds 1 and 2 only, and walks it from record 1."
 pub fn check(bytes: &[u8], list: &[u8]) -> Result<Answer, Refusal> {
+    check_accepted(&accept(bytes)?, None, list)
+}
+
+/// Document 02: "The checker, given a cap". 20 comes "right after 7".
+pub fn check_limited(bytes: &[u8], limit: u32, list: &[u8]) -> Result<Answer, Refusal> {
     let sheet = accept(bytes)?;
+    let limit = admitted(limit)?;
+    check_accepted(&sheet, Some(limit), list)
+}
+
+fn check_accepted(sheet: &Sheet, limit: Limit, list: &[u8]) -> Result<Answer, Refusal> {
     let records = records(list)?;
-    let mut walk = Walk { sheet: &sheet, records: &records, path: Vec::new() };
+    let mut walk = Walk { sheet, limit, records: &records, path: Vec::new() };
     let mut number = 1;
     while walk.step(number)? == Step::GoOn {
         number += 1;
@@ -49,36 +60,41 @@ enum Step {
 
 struct Walk<'a> {
     sheet: &'a Sheet,
+    limit: Limit,
     records: &'a [Record],
     path: Vec<Above>,
 }
 
 impl Walk<'_> {
-    /// "each record, in turn": 11, then "same, a split" 15 or "same, a ground" 12, and what comes after it.
+    /// "each record, in turn": 11, then "same, a split" 15 or "same, a ground" 12, and what comes after it. A clique is a leaf as a ground is, and 12 is its
+    /// check too.
     fn step(&mut self, number: usize) -> Result<Step, Refusal> {
         let record = self.records[number - 1];
         if !self.in_range(&record) {
             return refuse(11, number);
         }
-        if record.kind == SPLIT { self.split(number, &record) } else { self.ground(number, &record) }
+        if record.kind == SPLIT { self.split(number, &record) } else { self.leaf(number, &record) }
     }
 
     /// 11: "kind, spare, lot or condition out of range; second or next of a ground not 0", place the record. Document 02: "Checks 5 and 11 admit lot 0." There
-    /// is no condition 0.
+    /// is no condition 0. Of a clique: "kind 4, other fields 0 (else 11)". Without a limit kind 4 is out of range.
     fn in_range(&self, record: &Record) -> bool {
         let lot = |lot: u16| (ZERO_LOT..=self.sheet.lots).contains(&usize::from(lot));
         let condition = |condition: u16| (1..=self.sheet.conditions.len()).contains(&usize::from(condition));
         let fields = match record.kind {
             SPLIT => lot(record.first) && lot(record.second),
             GROUND => condition(record.first) && record.second == 0 && record.next == 0,
+            CLIQUE => self.limit.is_some() && record.first == 0 && record.second == 0 && record.next == 0,
             _ => false,
         };
         fields && record.spare == 0
     }
 
-    /// 15: "1,024 splits stand above it", place the record. Everything under its same branch follows, so a record must.
+    /// 15: "1,024 splits stand above it", place the record; with a limit, "its depth check 15 then stands at 8,256 splits". Everything under its same branch
+    /// follows, so a record must.
     fn split(&mut self, number: usize, record: &Record) -> Result<Step, Refusal> {
-        if self.path.len() >= MOST_SPLITS_ABOVE {
+        let most = if self.limit.is_some() { MOST_SPLITS_ABOVE_LIMITED } else { MOST_SPLITS_ABOVE };
+        if self.path.len() >= most {
             return refuse(15, number);
         }
         let (a, b) = (usize::from(record.first), usize::from(record.second));
@@ -86,10 +102,20 @@ impl Walk<'_> {
         self.not_missing(number + 1)
     }
 
-    /// 12: "a term isn't false", or the condition is withdrawn, place the record. 13: "the split's next is wrong", place the split.
-    fn ground(&mut self, number: usize, record: &Record) -> Result<Step, Refusal> {
+    /// Whether the leaf is what it says, under the path that it stands under. Of a clique: "passes a crowd exactly when more than g consignments are left and
+    /// the g + 1 with the smallest lots are all marked apart pairwise, and otherwise says 12". Nothing is asked about conditions there.
+    fn leaf_passes(&self, record: &Record) -> bool {
         let known = Known::from(self.sheet.lots, &self.decisions());
-        if !known.ground_passes(&self.sheet.conditions[usize::from(record.first) - 1]) {
+        match record.kind {
+            GROUND => known.ground_passes(&self.sheet.conditions[usize::from(record.first) - 1]),
+            _ => self.limit.is_some_and(|limit| Limited::of(limit, &known) == Limited::Clique),
+        }
+    }
+
+    /// 12: "a term isn't false", or the condition is withdrawn, or the clique is none, place the record. 13: "the split's next is wrong", place the split. Of a
+    /// clique: "the walk goes on as after a ground".
+    fn leaf(&mut self, number: usize, record: &Record) -> Result<Step, Refusal> {
+        if !self.leaf_passes(record) {
             return refuse(12, number);
         }
         // "After a ground, the nearest split above it still in its equal branch": those below it are over.

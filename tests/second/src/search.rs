@@ -1,19 +1,31 @@
-//! The search, and what it leaves in the two buffers.
+//! The search, without a limit on the classes and with one, and what it leaves in the two buffers.
 use crate::answer::{Answer, Refusal, refuse};
+use crate::class_limit::{Limit, admitted};
 use crate::evaluator::long_enough;
 use crate::limits::*;
 use crate::node::{Decision, Known, Node, node};
 use crate::reader::accept;
 use crate::sheet::Sheet;
-use crate::store::{Record, ground, list_bytes, met, split};
+use crate::store::{Record, clique, ground, list_bytes, met, split};
 
 /// "The search starts with no decisions and stops at the first met node." The caller needs a stack for as many calls of `visit` as there are "same" terms.
 pub fn search(bytes: &[u8], grouping: &mut [u8], store: &mut [u8]) -> Result<Answer, Refusal> {
+    search_accepted(&accept(bytes)?, None, grouping, store)
+}
+
+/// Document 02: "Add a search with a cap g from 1 to 129". 20 comes "right after 7". The caller needs a stack for as many calls of `visit` as there are pairs
+/// of lots 0 to n: each split names two classes that are not marked apart.
+pub fn search_limited(bytes: &[u8], limit: u32, grouping: &mut [u8], store: &mut [u8]) -> Result<Answer, Refusal> {
     let sheet = accept(bytes)?;
-    long_enough(&sheet, grouping)?;
+    let limit = admitted(limit)?;
+    search_accepted(&sheet, Some(limit), grouping, store)
+}
+
+fn search_accepted(sheet: &Sheet, limit: Limit, grouping: &mut [u8], store: &mut [u8]) -> Result<Answer, Refusal> {
+    long_enough(sheet, grouping)?;
     // "its length divided by 8, rounded down, at most 65,535"
     let room = (store.len() / NODE_LENGTH).min(MOST_NODES);
-    let mut run = Run { sheet: &sheet, room, decisions: Vec::new(), nodes: Vec::new(), grouping: Vec::new() };
+    let mut run = Run { sheet, limit, room, decisions: Vec::new(), nodes: Vec::new(), grouping: Vec::new() };
     let end = run.visit();
     let count = run.nodes.len();
     match end {
@@ -45,6 +57,7 @@ enum End {
 
 struct Run<'a> {
     sheet: &'a Sheet,
+    limit: Limit,
     room: usize,
     decisions: Vec<Decision>,
     nodes: Vec<Record>,
@@ -58,7 +71,7 @@ impl Run<'_> {
             return End::Full;
         }
         let known = Known::from(self.sheet.lots, &self.decisions);
-        match node(self.sheet, &known) {
+        match node(self.sheet, self.limit, &known) {
             Node::Met => {
                 // "Each lot's byte in the grouping is the smallest lot of its consignment." Document 02: "The grouping still has n bytes, for lots 1 to n."
                 self.grouping = (1..=self.sheet.lots).map(|lot| known.smallest(lot) as u8).collect();
@@ -67,6 +80,11 @@ impl Run<'_> {
             }
             Node::Ground(condition) => {
                 self.nodes.push(ground(condition));
+                End::NotMet
+            }
+            // "the walk goes on as after a ground"
+            Node::Clique => {
+                self.nodes.push(clique());
                 End::NotMet
             }
             Node::Split(a, b) => {

@@ -38,6 +38,11 @@ pub fn met() -> Record {
     record(MET, 0, 0, 0)
 }
 
+/// Document 02: "the node is a crowd: kind 4, other fields 0"
+pub fn clique() -> Record {
+    record(CLIQUE, 0, 0, 0)
+}
+
 fn record(kind: u8, first: usize, second: usize, next: usize) -> Record {
     let two_bytes = |number: usize| u16::try_from(number).expect("a number of two bytes");
     Record { kind, spare: 0, first: two_bytes(first), second: two_bytes(second), next: two_bytes(next) }
