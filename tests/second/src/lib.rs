@@ -3,6 +3,7 @@
 //! comment is the papers'. Where they say consignment, numbering, grounds list, judge, packed sheet, struck condition, hold, cap and crowd, the code says
 //! class, assignment, refutation, evaluator, canonical bytes, withdrawn condition, zero lot, limit and clique.
 pub mod answer;
+pub mod cases;
 pub mod class_limit;
 pub mod evaluator;
 pub mod limits;
