@@ -106,15 +106,24 @@ impl Found {
 }
 
 pub fn probe(sheet: &[u8], room: usize) -> Found {
+    probe_by(room, |grouping, nodes| second::search(sheet, grouping, nodes))
+}
+
+/// As `probe`, with a limit.
+pub fn probe_limited(sheet: &[u8], limit: u32, room: usize) -> Found {
+    probe_by(room, |grouping, nodes| second::search_limited(sheet, limit, grouping, nodes))
+}
+
+fn probe_by(room: usize, search: impl FnOnce(&mut [u8], &mut [u8]) -> Result<Answer, Refusal>) -> Found {
     let (mut grouping, mut nodes) = (vec![0; 256], vec![0; NODE_LENGTH * room]);
-    let answer = second::search(sheet, &mut grouping, &mut nodes).ok();
+    let answer = search(&mut grouping, &mut nodes).ok();
     let mut found = Found { answer, grouping, nodes, room };
     let written = if answer.is_some() { found.count() } else { 0 };
     found.nodes.truncate(NODE_LENGTH * written);
     found
 }
 
-fn hex(bytes: &[u8]) -> String {
+pub(crate) fn hex(bytes: &[u8]) -> String {
     bytes.iter().map(|byte| format!("{byte:02x}")).collect()
 }
 

@@ -212,13 +212,13 @@ fn changed_tree(random: &mut Random, _: usize) -> Case {
     let records: Vec<Record> = probe(&sheet, 200).nodes.chunks(NODE_LENGTH).map(Record::from_bytes).collect();
     let mut tree = Tree::read(&records);
     for _ in 0..random.range(1, 3) {
-        tree.change(&accepted(&sheet), random);
+        tree.change(&accepted(&sheet), None, random);
     }
     with_list(sheet, list_bytes(&tree.records()), random)
 }
 
 fn other_list(sheet: &[u8], random: &mut Random) -> Vec<u8> {
-    list_bytes(&grow(&accepted(sheet), &mut Vec::new(), &mut 400, random).records())
+    list_bytes(&grow(&accepted(sheet), None, &mut Vec::new(), &mut 400, random).records())
 }
 
 fn other_hand(random: &mut Random, number: usize) -> Case {

@@ -115,7 +115,7 @@ fn lists(pair: &Pair, own: Vec<u8>, random: &mut Random) -> Vec<Vec<u8>> {
     let sheet = accept(&pair.sheet).expect("a valid sheet");
     let mut all = vec![own];
     if !sheet.conditions.is_empty() {
-        all.push(list_bytes(&grow(&sheet, &mut Vec::new(), &mut 60, random).records()));
+        all.push(list_bytes(&grow(&sheet, None, &mut Vec::new(), &mut 60, random).records()));
     }
     let mut faulty = all.clone();
     faulty.iter_mut().for_each(|list| list_fault(list, sheet.lots, sheet.conditions.len(), random));
