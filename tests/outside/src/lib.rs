@@ -20,4 +20,5 @@ pub mod sheets;
 pub mod tally;
 pub mod together;
 pub mod tree;
+pub mod universes;
 pub mod withdrawn_pairs;
