@@ -9,7 +9,7 @@ use std::hint::black_box;
 
 const PASSES: [u32; 4] = [0, 0, 0, 0];
 /// Up to this many lots beside lot 0, every grouping is tried.
-const FEW_LOTS: usize = 5;
+pub const FEW_LOTS: usize = 5;
 
 /// Every law, on the answers and buffers of one case.
 pub fn laws(case: &Case) -> Result<(), String> {
@@ -20,7 +20,7 @@ pub fn laws(case: &Case) -> Result<(), String> {
     surrounded(case, &repacked)?;
     verdict(case, &found)?;
     zero_lot(case, &found)?;
-    untouched(case, &found)?;
+    untouched(usize::from(*case.sheet.first().unwrap_or(&0)), case.fill, &found)?;
     output_untouched(case, &repacked)?;
     brute_force(case, &found)?;
     canonical_laws(case, &found, &repacked)?;
@@ -111,15 +111,15 @@ fn same_pairs(store: &[u8]) -> Vec<(usize, usize)> {
     }
 }
 
-/// Bytes that are not to be written have what they had.
-fn untouched(case: &Case, found: &Searched) -> Result<(), String> {
+/// Bytes that a search of a sheet with so many lots is not to write have what they had.
+pub(crate) fn untouched(lots: usize, fill: u8, found: &Searched) -> Result<(), String> {
     let (grouping_written, store_written) = match found.answer {
-        [0, 1, count, _] => (usize::from(case.sheet[0]), NODE_LENGTH * count as usize),
+        [0, 1, count, _] => (lots, NODE_LENGTH * count as usize),
         [0, 2, count, _] => (0, NODE_LENGTH * count as usize),
         [9, room, _, _] => (0, NODE_LENGTH * room as usize),
         _ => (0, 0),
     };
-    if !is_filled(&found.grouping[grouping_written..], case) || !is_filled(&found.store[store_written..], case) {
+    if !is_filled(&found.grouping[grouping_written..], fill) || !is_filled(&found.store[store_written..], fill) {
         return Err("a byte past the written part was changed".into());
     }
     if found.answer[0] == 9 && found.store[..store_written].iter().any(|&byte| byte != 0) {
@@ -134,11 +134,15 @@ fn output_untouched(case: &Case, repacked: &Repacked) -> Result<(), String> {
         [0, length, ..] => length as usize,
         _ => 0,
     };
-    if is_filled(&repacked.out[written..], case) { Ok(()) } else { Err("a byte of the output past the packed sheet was changed".into()) }
+    if is_filled(&repacked.out[written..], case.fill) {
+        Ok(())
+    } else {
+        Err("a byte of the output past the packed sheet was changed".into())
+    }
 }
 
-fn is_filled(bytes: &[u8], case: &Case) -> bool {
-    bytes.iter().all(|&byte| byte == case.fill)
+fn is_filled(bytes: &[u8], fill: u8) -> bool {
+    bytes.iter().all(|&byte| byte == fill)
 }
 
 /// With few lots: some grouping meets the sheet exactly where the search says so.

@@ -15,7 +15,7 @@ pub struct Class {
 }
 
 /// The seed of a case: the class's name, mixed (FNV-1a), and the case's number.
-fn seed(name: &str, number: usize) -> u64 {
+pub(crate) fn seed(name: &str, number: usize) -> u64 {
     let mixed = name.bytes().fold(0xCBF2_9CE4_8422_2325_u64, |mixed, byte| (mixed ^ u64::from(byte)).wrapping_mul(0x0100_0000_01B3));
     mixed.wrapping_add(number as u64)
 }
