@@ -1,4 +1,5 @@
-//! Verdicts on larger sheets beside z3's, where the command is on the path: lots are integers, lot 0 is the number 0, a condition is a disjunction.
+//! Verdicts on larger sheets beside z3's, where the command is on the path: lots are integers, lot 0 is the number 0, a condition is a disjunction, and with a
+//! limit the integers are below it.
 use lihumbay::raw;
 use outside::compare::plain;
 use outside::random::Random;
@@ -33,12 +34,45 @@ fn sheet(random: &mut Random) -> Vec<u8> {
     write(&shape, random)
 }
 
-/// The archive's verdict, 1 met or 2 cannot, where the longest store is enough.
-fn verdict(bytes: &[u8]) -> Option<u32> {
-    let (mut grouping, mut store) = (vec![0; 128], vec![0; 8 * MOST_NODES]);
-    match plain(raw::search(bytes, &mut grouping, &mut store)) {
-        [0, verdict, _, _] => Some(verdict),
-        _ => None,
+/// A sheet of which often more classes are asked than a small limit admits: most terms are "apart", and many conditions have one term.
+fn mostly_apart(random: &mut Random) -> Vec<u8> {
+    let shape = Shape {
+        lots: random.range(10, 20),
+        conditions: random.range(30, 120),
+        terms: 1024,
+        longest: random.range(1, 3),
+        same: random.range(0, 15),
+        zero: random.pick(&[0, 2, 10]),
+        twice: 0,
+        repeated: 3,
+        withdrawn: random.pick(&[0, 5]),
+        all: false,
+    };
+    write(&shape, random)
+}
+
+/// What the archive and z3 are both asked: whether something meets the sheet, within the limit if there is one.
+struct Question {
+    bytes: Vec<u8>,
+    limit: Option<u32>,
+}
+
+impl Question {
+    /// The archive's verdict, 1 met or 2 cannot, where the longest store is enough.
+    fn verdict(&self) -> Option<u32> {
+        let (mut grouping, mut store) = (vec![0; 128], vec![0; 8 * MOST_NODES]);
+        let answer = match self.limit {
+            None => raw::search(&self.bytes, &mut grouping, &mut store),
+            Some(limit) => raw::search_limited(&self.bytes, limit, &mut grouping, &mut store),
+        };
+        match plain(answer) {
+            [0, verdict, _, _] => Some(verdict),
+            _ => None,
+        }
+    }
+
+    fn script(&self) -> String {
+        script(&accept(&self.bytes).expect("a valid sheet"), self.limit)
     }
 }
 
@@ -58,10 +92,14 @@ fn term(term: &Term) -> String {
     }
 }
 
-fn script(sheet: &Sheet) -> String {
+/// At most so many different numbers, 0 among them, can be called by the numbers below the limit, and 0 by 0: which lots have the same number stays.
+fn script(sheet: &Sheet, limit: Option<u32>) -> String {
     let mut text = String::from("(reset)\n(set-logic QF_LIA)\n");
-    for lot in 1..=sheet.lots {
-        writeln!(text, "(declare-const {} Int)", self::lot(lot)).expect("a string takes all");
+    for lot in (1..=sheet.lots).map(self::lot) {
+        writeln!(text, "(declare-const {lot} Int)").expect("a string takes all");
+        if let Some(limit) = limit {
+            writeln!(text, "(assert (and (<= 0 {lot}) (< {lot} {limit})))").expect("a string takes all");
+        }
     }
     // A withdrawn condition is true, and asserts nothing.
     for condition in sheet.conditions.iter().filter(|condition| !is_withdrawn(condition)) {
@@ -85,7 +123,7 @@ fn answers(scripts: &str) -> Vec<String> {
 /// What z3 is asked is looked at also where it is not there.
 #[test]
 fn a_sheet_s_script() {
-    let sheet = sheet_bytes(2, &[vec![same(0, 2), apart(1, 0)], vec![], vec![apart(0, 0)]]);
+    let bytes = sheet_bytes(2, &[vec![same(0, 2), apart(1, 0)], vec![], vec![apart(0, 0)]]);
     let lines = [
         "(reset)",
         "(set-logic QF_LIA)",
@@ -95,7 +133,27 @@ fn a_sheet_s_script() {
         "(assert (or false (not (= 0 0))))",
         "(check-sat)",
     ];
-    assert_eq!(script(&accept(&sheet).expect("a valid sheet")).lines().collect::<Vec<_>>(), lines);
+    let script = |limit: Option<u32>| Question { bytes: bytes.clone(), limit }.script();
+    assert_eq!(script(None).lines().collect::<Vec<_>>(), lines);
+    let within = ["x1", "x2"].map(|lot| format!("(assert (and (<= 0 {lot}) (< {lot} 2)))"));
+    let limited = [&lines[..3], &[&within[0]], &lines[3..4], &[&within[1]], &lines[4..]].concat();
+    assert_eq!(script(Some(2)).lines().collect::<Vec<_>>(), limited);
+}
+
+/// How many of the questions the archive answers met, and cannot; z3 answers all of them alike. Where the store was full, z3 isn't asked.
+fn agree(what: &str, questions: &[Question]) -> [usize; 2] {
+    let decided: Vec<(&Question, u32)> = questions.iter().filter_map(|question| Some((question, question.verdict()?))).collect();
+    let scripts: String = decided.iter().map(|(question, _)| question.script()).collect();
+    let answers = answers(&scripts);
+    assert_eq!(answers.len(), decided.len(), "one answer for each sheet");
+    for ((question, verdict), answer) in decided.iter().zip(&answers) {
+        let expected = if *verdict == 1 { "sat" } else { "unsat" };
+        assert_eq!(answer, expected, "on the sheet {:02x?}, limit {:?}", question.bytes, question.limit);
+    }
+    let met = decided.iter().filter(|(_, verdict)| *verdict == 1).count();
+    let (cannot, full) = (decided.len() - met, questions.len() - decided.len());
+    say(&format!("z3 agrees on {met} {what} met, {cannot} that cannot be; {full} were left out, their store was full"));
+    [met, cannot]
 }
 
 #[test]
@@ -105,21 +163,14 @@ fn verdicts_agree_with_z3() {
     }
     with_stack(|| {
         let mut random = Random::new(31);
-        let sheets: Vec<Vec<u8>> = (0..SHEETS).map(|_| sheet(&mut random)).collect();
-        let decided: Vec<(&Vec<u8>, u32)> = sheets.iter().filter_map(|bytes| Some((bytes, verdict(bytes)?))).collect();
-        let scripts: String = decided.iter().map(|(bytes, _)| script(&accept(bytes).expect("a valid sheet"))).collect();
-        let answers = answers(&scripts);
-        assert_eq!(answers.len(), decided.len(), "one answer for each sheet");
-        for ((bytes, verdict), answer) in decided.iter().zip(&answers) {
-            let expected = if *verdict == 1 { "sat" } else { "unsat" };
-            assert_eq!(answer, expected, "on the sheet {bytes:02x?}");
-        }
-        let met = decided.iter().filter(|(_, verdict)| *verdict == 1).count();
-        let cannot = decided.len() - met;
-        say(&format!(
-            "z3 agrees on {met} sheets met, {cannot} that cannot be; {} were left out, their store was full",
-            SHEETS - decided.len()
-        ));
-        assert!(met >= LEAST && cannot >= LEAST);
+        let questions: Vec<Question> = (0..SHEETS).map(|_| Question { bytes: sheet(&mut random), limit: None }).collect();
+        assert!(agree("sheets", &questions).iter().all(|&count| count >= LEAST));
+        let limited = |random: &mut Random| Question { bytes: mostly_apart(random), limit: Some(random.range(2, 4) as u32) };
+        let questions: Vec<Question> = (0..SHEETS).map(|_| limited(&mut random)).collect();
+        assert!(agree("sheets with a limit", &questions).iter().all(|&count| count >= LEAST));
+        // Of those that are not met within the limit, some are met without one.
+        let without = |question: &Question| Question { bytes: question.bytes.clone(), limit: None };
+        let turned = questions.iter().filter(|question| question.verdict() == Some(2)).map(without).collect::<Vec<_>>();
+        assert!(agree("of these sheets without a limit", &turned)[0] >= LEAST);
     });
 }
