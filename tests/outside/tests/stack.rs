@@ -1,15 +1,22 @@
-//! The services on small stacks: the header says that a search needs up to 0.9 MB, and each of the others less than 48 KB. A call that needs more ends this
-//! program, and so the test.
+//! The services on small stacks: the header says what a search needs, without a limit and with one, what the checker needs with a limit, and what each of the
+//! others needs. A call that needs more ends this program, and so the test.
 use lihumbay::raw;
 use outside::compare::plain;
+use outside::depth::depth;
 use outside::families::{DEEPEST, deep, joined, lowered};
+use outside::limited_families::{DEEPEST_LIMITED, Deep, MOST_APART, all_apart};
+use outside::lists::spine;
 use outside::random::Random;
-use second::limits::{HEAD_LENGTH, MOST_CONDITIONS, MOST_NODES, MOST_TERMS, NODE_LENGTH};
+use second::limits::{HEAD_LENGTH, MOST_CONDITIONS, MOST_NODES, MOST_SPLITS_ABOVE_LIMITED, MOST_TERMS, NODE_LENGTH};
 use second::reader::accept;
-use second::writer::{same, sheet_bytes, sheet_bytes_in};
+use second::store::list_bytes;
+use second::writer::{apart, same, sheet_bytes, sheet_bytes_in};
 use std::thread;
 
 const SEARCH: usize = 900_000;
+/// The search and the checker with a limit, at 8,256 splits on a path.
+const SEARCH_LIMITED: usize = 6_800_000;
+const CHECK_LIMITED: usize = 200_000;
 const OTHERS: usize = 48_000;
 
 /// Does the work on so much stack, and a little for the thread itself.
@@ -87,5 +94,61 @@ fn deepest_searches_fit_and_so_do_the_others_on_them() {
         let (answer, list) = searched(sheet.clone());
         assert_eq!(answer[..2], [0, 2]);
         others(sheet, list);
+    }
+}
+
+/// The four numbers of the search with a limit, and the records that it wrote, on so much stack.
+fn searched_limited(bytes: usize, sheet: Vec<u8>, limit: u32) -> ([u32; 4], Vec<u8>) {
+    on_stack(bytes, move || {
+        let (mut grouping, mut store) = (vec![0; 128], vec![0; NODE_LENGTH * MOST_NODES]);
+        let answer = plain(raw::search_limited(&sheet, limit, &mut grouping, &mut store));
+        store.truncate(NODE_LENGTH * answer[2] as usize);
+        (answer, store)
+    })
+}
+
+/// No sheet is known whose search has a path of 8,256 splits, and none that comes near. A path costs the same for each split, beside what a search needs on its
+/// own: so the longest path that is known has to fit its share of the stack for 8,256, whatever the limit that it is searched with.
+#[test]
+fn deepest_searches_with_a_limit_fit_their_share() {
+    let mut random = Random::new(42);
+    let deep = Deep { free: 30, named: 46, width: 1023 };
+    let backwards: Vec<usize> = (1..=MOST_TERMS).rev().collect();
+    for (sheet, limit) in [
+        (sheet_bytes(deep.lots(), &deep.conditions(&mut random)), 1),
+        (sheet_bytes_in(DEEPEST_LIMITED.lots(), &DEEPEST_LIMITED.conditions(), &backwards), 1),
+        (sheet_bytes(MOST_APART, &all_apart(MOST_APART, &mut random)), MOST_APART as u32),
+    ] {
+        let (answer, list) = searched_limited(SEARCH_LIMITED, sheet.clone(), limit);
+        assert_eq!(answer[..2], [0, 2]);
+        let share = OTHERS + (SEARCH_LIMITED - OTHERS) * depth(&list) / MOST_SPLITS_ABOVE_LIMITED;
+        assert_eq!(searched_limited(share, sheet.clone(), limit), (answer, list.clone()));
+        on_stack(CHECK_LIMITED, move || assert_eq!(plain(raw::check_limited(&sheet, limit, &list)), [0; 4]));
+    }
+}
+
+/// Searches that are met with all lots joined, and with as many classes as there may be.
+#[test]
+fn searches_with_a_limit_of_sheets_without_conditions_fit() {
+    for limit in [1, 2, 128, 129] {
+        let (answer, _) = searched_limited(SEARCH_LIMITED, sheet_bytes(128, &[]), limit);
+        assert_eq!(answer, [0, 1, 130 - limit, 0]);
+    }
+}
+
+/// Lists with a path of 8,256 splits, over few lots and over as many as there may be, in same branches, in apart branches and in both, and with a split more.
+#[test]
+fn deepest_lists_with_a_limit_fit() {
+    let mut random = Random::new(43);
+    for (lots, percent) in [2, 128].into_iter().flat_map(|lots| [(lots, 0), (lots, 50), (lots, 100)]) {
+        let sheet = sheet_bytes(lots, &[vec![apart(1, 1)]]);
+        let directions: Vec<bool> = (0..=MOST_SPLITS_ABOVE_LIMITED).map(|_| random.chance(percent)).collect();
+        let (passes, deeper) = (spine(&(0..=lots), &directions[1..], &mut random), spine(&(0..=lots), &directions, &mut random));
+        let (passes, place) =
+            (list_bytes(&passes), 1 + directions[..MOST_SPLITS_ABOVE_LIMITED].iter().map(|&same| if same { 1 } else { 2 }).sum::<u32>());
+        on_stack(CHECK_LIMITED, move || {
+            assert_eq!(plain(raw::check_limited(&sheet, 1, &passes)), [0; 4]);
+            assert_eq!(plain(raw::check_limited(&sheet, 1, &list_bytes(&deeper))), [15, place, 0, 0]);
+        });
     }
 }
