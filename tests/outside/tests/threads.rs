@@ -1,6 +1,7 @@
 //! Two threads in the services at once: a call touches only what it is lent.
 use outside::case::Case;
 use outside::compare::{Repacked, Searched, plain, repacked, searched};
+use outside::limited::{Limited, searched as searched_with_limit};
 use outside::merged::{Merged, merged};
 use outside::random::Random;
 use outside::sheets;
@@ -9,14 +10,27 @@ use std::thread;
 
 const CASES: usize = 400;
 const ROUNDS: usize = 5;
+/// A limit that most of the sheets pass.
+const LIMIT: u32 = 4;
 
-/// What the services that search, check or write give on each case; each sheet is merged with the one before it.
-fn all(cases: &[Case]) -> Vec<(Searched, [u32; 4], Repacked, Merged)> {
+/// What the services that search, check or write give on a case: searches and checks without a limit, and with one.
+#[derive(PartialEq)]
+struct Given {
+    searched: [Searched; 2],
+    checked: [[u32; 4]; 2],
+    repacked: Repacked,
+    merged: Merged,
+}
+
+/// All of it on each case; each sheet is merged with the one before it.
+fn all(cases: &[Case]) -> Vec<Given> {
     let before = |number: usize| &cases[number.checked_sub(1).unwrap_or(CASES - 1)];
     let one = |(number, case): (usize, &Case)| {
-        let checked = plain(lihumbay::raw::check(&case.sheet, &case.list));
+        let limited = Limited { store_length: case.store_length, ..Limited::with_list(case.sheet.clone(), LIMIT, 0, case.list.clone()) };
+        let checked =
+            [lihumbay::raw::check(&case.sheet, &case.list), lihumbay::raw::check_limited(&case.sheet, LIMIT, &case.list)].map(plain);
         let merged = merged(&before(number).sheet, &case.sheet, &[case.fill; 6000]);
-        (searched(case), checked, repacked(case), merged)
+        Given { searched: [searched(case), searched_with_limit(&limited)], checked, repacked: repacked(case), merged }
     };
     cases.iter().enumerate().map(one).collect()
 }
