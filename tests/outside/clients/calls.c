@@ -283,6 +283,53 @@ static void zero_lot_alone(void) {
     expect("read, a chain into a vacant record", is(lihumbay_read(sheet, sizeof sheet), 17, 1, 0, 0));
 }
 
+/* Two lots that are apart, with a limit on the number of classes, lot 0's among them: two are enough, one is not. */
+static const uint8_t apart_1_2[] = {2, 0, 1, 0, 1, 0, 1, 0, 2, 0, 1, 0, 2, 0, 0, 0};
+
+/* With one: split 0 1 5; split 0 2 4; ground 1; clique; clique */
+static const uint8_t within_1[] = {
+    1, 0, 0, 0, 1, 0, 5, 0, 1, 0, 0, 0, 2, 0, 4, 0, 2, 0, 1, 0, 0, 0, 0, 0,
+    4, 0, 0, 0, 0, 0, 0, 0, 4, 0, 0, 0, 0, 0, 0, 0,
+};
+
+/* With two: split 0 1 0; met */
+static const uint8_t within_2[] = {1, 0, 0, 0, 1, 0, 0, 0, 3, 0, 0, 0, 0, 0, 0, 0};
+
+static void search_limited(void) {
+    uint8_t grouping[3], store[48];
+    memset(grouping, 170, sizeof grouping);
+    memset(store, 170, sizeof store);
+    const uint32_t refused[] = {0, 130, 256, 257, 65793, UINT32_MAX};
+    for (size_t i = 0; i < sizeof refused / sizeof *refused; i++) {
+        expect("search, a limit refused", is(lihumbay_search_limited(apart_1_2, 16, refused[i], grouping, 0, store, 48), 20, refused[i], 0, 0));
+    }
+    expect("search, a sheet before the limit", is(lihumbay_search_limited(apart_1_2, 15, 0, grouping, 3, store, 48), 3, 0, 0, 0));
+    expect("search, grouping short", is(lihumbay_search_limited(apart_1_2, 16, 1, grouping, 1, store, 48), 8, 2, 0, 0));
+    expect("nothing written", all(grouping, 0, 3, 170) && all(store, 0, 48, 170));
+    expect("search within one", is(lihumbay_search_limited(apart_1_2, 16, 1, grouping, 3, store, 48), 0, 2, 5, 0));
+    expect("its nodes", memcmp(store, within_1, sizeof within_1) == 0 && all(store, 40, 48, 170) && all(grouping, 0, 3, 170));
+    memset(store, 170, sizeof store);
+    expect("search within two", is(lihumbay_search_limited(apart_1_2, 16, 2, grouping, 3, store, 16), 0, 1, 2, 0));
+    expect("its nodes", memcmp(store, within_2, sizeof within_2) == 0 && all(store, 16, 48, 170));
+    expect("its grouping", memcmp(grouping, "\0\2", 2) == 0 && grouping[2] == 170);
+    expect("search within three", is(lihumbay_search_limited(apart_1_2, 16, 3, grouping, 3, store, 48), 0, 1, 1, 0));
+    expect("search, store full", is(lihumbay_search_limited(apart_1_2, 16, 1, grouping, 3, store, 39), 9, 4, 0, 0));
+    expect("whole records zeroed", all(store, 0, 32, 0) && all(store, 32, 48, 170));
+}
+
+static void check_limited(void) {
+    uint8_t list[sizeof within_1];
+    memcpy(list, within_1, sizeof list);
+    expect("check within one", is(lihumbay_check_limited(apart_1_2, 16, 1, list, 40), 0, 0, 0, 0));
+    expect("check, no clique of three", is(lihumbay_check_limited(apart_1_2, 16, 2, list, 40), 12, 4, 0, 0));
+    expect("check, a limit refused", is(lihumbay_check_limited(apart_1_2, 16, 257, list, 0), 20, 257, 0, 0));
+    expect("check, no whole records", is(lihumbay_check_limited(apart_1_2, 16, 1, list, 39), 10, 0, 0, 0));
+    expect("check, the next one missing", is(lihumbay_check_limited(apart_1_2, 16, 1, list, 32), 14, 5, 0, 0));
+    expect("check, a clique without a limit", is(lihumbay_check(apart_1_2, 16, list, 40), 11, 4, 0, 0));
+    list[30] = 5;
+    expect("check, a clique's next", is(lihumbay_check_limited(apart_1_2, 16, 1, list, 40), 11, 4, 0, 0));
+}
+
 int main(void) {
     reader();
     search_met();
@@ -297,6 +344,8 @@ int main(void) {
     merge_limits();
     zero_lot();
     zero_lot_alone();
+    search_limited();
+    check_limited();
     puts(failed ? "calls from C: FAILED" : "calls from C: ok");
     return failed;
 }

@@ -1,4 +1,5 @@
-// The header from C++: its functions have C linkage, and document 01's sheet C, also with each lot one lower, is answered as the papers say.
+// The header from C++: its functions have C linkage, and document 01's sheet C, also with each lot one lower, is answered as the papers
+// say, and so are two lots apart with a limit on the number of classes.
 #include <algorithm>
 #include <array>
 #include <iostream>
@@ -25,6 +26,14 @@ int main() {
     std::vector<std::uint8_t> lower_grouping(3, 170);
     const lihumbay_numbers zero = lihumbay_search(lower.data(), lower.size(), lower_grouping.data(), lower_grouping.size(), store.data(), 32);
     const bool zero_lot = zero.check == 0 && zero.first == 1 && zero.second == 4 && lower_grouping == std::vector<std::uint8_t>{1, 0, 170};
+    const std::array<std::uint8_t, 16> apart = {2, 0, 1, 0, 1, 0, 1, 0, 2, 0, 1, 0, 2, 0, 0, 0};
+    std::vector<std::uint8_t> nodes(48, 170), within(3, 170);
+    const lihumbay_numbers one = lihumbay_search_limited(apart.data(), apart.size(), 1, within.data(), within.size(), nodes.data(), nodes.size());
+    const lihumbay_numbers refuted = lihumbay_check_limited(apart.data(), apart.size(), 1, nodes.data(), 40);
+    const lihumbay_numbers two = lihumbay_search_limited(apart.data(), apart.size(), 2, within.data(), within.size(), nodes.data(), nodes.size());
+    const lihumbay_numbers none = lihumbay_check_limited(apart.data(), apart.size(), 257, nodes.data(), nodes.size());
+    const bool limits = one.check == 0 && one.first == 2 && one.second == 5 && refuted.check == 0 && two.check == 0 && two.first == 1 && two.second == 2 &&
+                        within == std::vector<std::uint8_t>{0, 2, 170} && none.check == 20 && none.first == 257;
     const bool accepted = read.check == 0 && read.first == 3 && read.second == 2 && read.third == 3;
     const bool met = found.check == 0 && found.first == 1 && found.second == 4 && found.third == 0;
     const bool written = grouping == std::vector<std::uint8_t>{1, 2, 1, 170} && std::count(store.begin() + 32, store.end(), 170) == 8;
@@ -34,7 +43,7 @@ int main() {
     const bool second_named = cut.check == 3 && cut.first == 0 && cut.second == 2 && cut.third == 0;
     const bool all_met = evaluated.check == 0 && evaluated.first == 0;
     const bool merges = one_sheet && second_named && both_stay;
-    const bool ok = accepted && met && written && no_refutation && canonical && merges && zero_lot && all_met;
+    const bool ok = accepted && met && written && no_refutation && canonical && merges && zero_lot && limits && all_met;
     std::cout << (ok ? "calls from C++: ok\n" : "calls from C++: FAILED\n");
     return ok ? 0 : 1;
 }

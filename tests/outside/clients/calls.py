@@ -1,4 +1,5 @@
-"""Calls the services from Python, on document 01's sheets A and C, and on C with each lot one lower. Its argument is a shared library made from the archive."""
+"""Calls the services from Python, on document 01's sheets A and C, on C with each lot one lower, and on two lots apart with a limit on the number of classes.
+Its argument is a shared library made from the archive."""
 import ctypes
 import sys
 
@@ -10,15 +11,27 @@ class Numbers(ctypes.Structure):
         return (self.check, self.first, self.second, self.third)
 
 
-def service(library, name, buffers):
+def lend(argument):
+    """The memory of a buffer; None for a number. A bytearray is lent as it is, so that what the service writes is seen; bytes are copied."""
+    if isinstance(argument, int):
+        return None
+    if isinstance(argument, bytearray):
+        return (ctypes.c_uint8 * max(1, len(argument))).from_buffer(argument)
+    return ctypes.create_string_buffer(argument, len(argument) + 1)
+
+
+BUFFER = [ctypes.c_void_p, ctypes.c_size_t]
+
+
+def service(library, name, buffers, limited=False):
+    """A function of so many buffers; with a limit, which stands behind the first of them."""
     function = getattr(library, name)
     function.restype = Numbers
-    function.argtypes = [ctypes.c_void_p, ctypes.c_size_t] * buffers
+    function.argtypes = BUFFER + [ctypes.c_uint32] * limited + BUFFER * (buffers - 1)
 
     def call(*arguments):
-        # A bytearray is lent as it is, so that what the service writes is seen; bytes are copied.
-        lent = [(ctypes.c_uint8 * max(1, len(a))).from_buffer(a) if isinstance(a, bytearray) else ctypes.create_string_buffer(a, len(a) + 1) for a in arguments]
-        flat = [part for view, a in zip(lent, arguments) for part in (ctypes.addressof(view), len(a))]
+        lent = [lend(a) for a in arguments]
+        flat = [part for view, a in zip(lent, arguments) for part in ((ctypes.addressof(view), len(a)) if view else (a,))]
         return function(*flat).all()
 
     return call
@@ -124,6 +137,22 @@ def zero_lot(read, search, evaluate, check):
     assert check(apart_0_0, bytes.fromhex("0100000000000300 0200010000000000 0200010000000000")) == (0, 0, 0, 0)
 
 
+def limited(search_limited, check_limited, check):
+    apart_1_2 = bytes.fromhex("020001000100 0100 0200010002000000")
+    grouping, store = bytearray(b"\xaa" * 3), bytearray(b"\xaa" * 41)
+    for limit in (0, 130, 257, 65793, 2**32 - 1):
+        assert search_limited(apart_1_2, limit, bytearray(1), store) == (20, limit, 0, 0)
+        assert check_limited(apart_1_2, limit, b"") == (20, limit, 0, 0)
+    assert search_limited(apart_1_2, 1, grouping, store) == (0, 2, 5, 0)
+    assert store == bytes.fromhex("0100000001000500 0100000002000400 0200010000000000 0400000000000000 0400000000000000") + b"\xaa"
+    assert grouping == b"\xaa" * 3
+    assert check_limited(apart_1_2, 1, bytes(store[:40])) == (0, 0, 0, 0)
+    assert check_limited(apart_1_2, 2, bytes(store[:40])) == (12, 4, 0, 0)
+    assert check(apart_1_2, bytes(store[:40])) == (11, 4, 0, 0)
+    assert search_limited(apart_1_2, 2, grouping, store) == (0, 1, 2, 0)
+    assert grouping == bytes([0, 2, 0xAA])
+
+
 def main():
     library = ctypes.CDLL(sys.argv[1])
     read, evaluate = service(library, "lihumbay_read", 1), service(library, "lihumbay_evaluate", 2)
@@ -138,6 +167,8 @@ def main():
     merged(merge)
     merged_withdrawn(merge)
     zero_lot(read, search, evaluate, check)
+    search_limited, check_limited = service(library, "lihumbay_search_limited", 3, limited=True), service(library, "lihumbay_check_limited", 2, limited=True)
+    limited(search_limited, check_limited, check)
     print("calls from Python: ok")
 
 
