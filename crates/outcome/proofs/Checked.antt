@@ -17,8 +17,8 @@ use Rattle.sheet.proofs.Numbered.{Numbered, either, test, sheet-numbered}
 use Rattle.equality.specs.Evaluator.{check8, groupingVerdict, groupingVerdictWith}
 use Rattle.limit.specs.Meaning.{Limit, unlimited, upTo, mostLimit, check20, limitChecks}
 use Rattle.refutation.proofs.Smaller.{admitted-first}
-use Rattle.outcome.specs.Outcome.{check9, searchVerdict, searchOutcome, searchOutcomeWith}
-use Rattle.outcome.specs.Limited.{verdictUnder, check9Under, searchVerdictUnder, outcomeUnder}
+use Rattle.outcome.specs.Outcome.{check9, searchVerdict, searchOutcome, searchOutcomeWith, ZeroGroup}
+use Rattle.outcome.specs.Limited.{verdictUnder, check9Under, searchVerdictUnder, outcomeUnder, ZeroGroupUnder}
 
 -- ---- without a limit they are document 01's, and so is all that comes of a search
 
@@ -33,6 +33,9 @@ unlimited-searched s grouping store = refl
 pub unlimited-outcome : (s grouping store : List ℕ) → outcomeUnder unlimited s grouping store ≡ searchOutcome s grouping store
 unfolding outcomeUnder searchOutcomeWith verdictUnder groupingVerdictWith
 unlimited-outcome s grouping store = refl
+
+pub unlimited-zero : (s grouping : List ℕ) → ZeroGroupUnder unlimited s grouping → ZeroGroup s grouping
+unlimited-zero s grouping h = h
 
 -- ---- a limit that 20 admits, and one that it refuses
 

@@ -5,7 +5,7 @@ use mathlib.Core.Path.{_≡_, refl}
 use Rattle.sheet.specs.Answers.{Answer, refused, answered}
 use Rattle.limit.specs.Meaning.{unlimited}
 use Rattle.outcome.specs.Limited.{verdictUnder}
-use Rattle.outcome.proofs.Checked.{unlimited-verdict, unlimited-searched}
+use Rattle.outcome.proofs.Checked.{unlimited-verdict, unlimited-searched, unlimited-zero}
 use Rattle.equality.specs.Evaluator.{groupingVerdictWith}
 use Rattle.search.specs.Promises.{searchCase, RefusedExactly, FullExactly, MetExactly, MetGrouping, MetZero, CannotExactly, CannotWhichever, CannotAny, CannotRefutes}
 use Rattle.search.specs.Limited.{caseUnder, RefusedExactlyUnder, FullExactlyUnder, MetExactlyUnder, MetGroupingUnder, MetZeroUnder, CannotExactlyUnder, CannotWhicheverUnder, CannotAnyUnder, CannotRefutesUnder}
@@ -34,7 +34,7 @@ module _ (s : List ℕ) where
 
   pub zero-plain : (a : Answer) (grouping′ : List ℕ) → MetZeroUnder unlimited a s grouping′ → MetZero a s grouping′
   zero-plain (refused check place) grouping′ h = tt
-  zero-plain (answered first count third) grouping′ h = h
+  zero-plain (answered first count third) grouping′ h = λ one. unlimited-zero s grouping′ (h one)
 
   pub cannot-plain : (a : Answer) → CannotExactlyUnder unlimited a s → CannotExactly a s
   cannot-plain (refused check place) h = tt
