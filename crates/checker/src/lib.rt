@@ -75,7 +75,7 @@ const LIMITED_MOST_SPLITS: usize = 8256;
 fn most_splits(limit: u16) -> usize
     ensures { λ r. ⌜ r ≡ mostSplits (limitOf limit) ⌝ }
 {
-    if limit == 0 {
+    if limit == clique::NO_LIMIT {
         return MOST_SPLITS;
     }
     LIMITED_MOST_SPLITS
@@ -299,8 +299,7 @@ fn ground_step(
 }
 
 // Whether more classes than the limit are left under the path, of lots 0 to n, and those with the smallest lots, one more than the limit, are marked apart
-// pairwise. The marks go into the table first: it costs the path's splits and, for each of these classes, the lots up to the last of them, not the product of
-// splits and pairs.
+// pairwise. The marks go into the table first: it costs the lots, the path's splits and the square of these classes, not the product of splits and pairs.
 fn clique_passes(
     n: u16,
     limit: u16,
@@ -342,7 +341,7 @@ fn clique_step(
         ≡ stepAs walkRest (at .number + 1) (now (path .exit)) v) ⌝ }
     ensures path { λ v. ⌜ GoesOn (now (path .exit)) (now (maps .entry)) (now (levels .exit)) v ⌝ }
 {
-    if limit == 0 {
+    if limit == clique::NO_LIMIT {
         return Step::Refuses(11, at.number);
     }
     if !clique_passes(n, limit, path, at.depth, maps, levels, table) {
@@ -550,7 +549,7 @@ pub fn check_limited(sheet: &[u8], limit: u32, list: &[u8]) -> CheckAnswer
         } => {
             if clique::ill_limited(limit) {
                 return CheckAnswer::Refused {
-                    check: 20,
+                    check: clique::ILL_LIMITED,
                     place: limit,
                 };
             }

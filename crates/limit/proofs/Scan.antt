@@ -6,11 +6,11 @@ use mathlib.Core.Path.{_≡_, refl, sym, ap, ap₂, _∙_}
 use native.Mathlib.Omega.{arith}
 use borrow.Author.Tests.{leb-true, leb-false}
 use lib.Dec.{eqb, leb}
-use lib.ListN.{length, take, length-append}
+use lib.ListN.{length, take, length-append, length-take}
 use lib.Seq.{take-all, take-append-seam}
 use Rattle.buffers.specs.Lists.{All}
-use Rattle.equality.specs.Node.{classOf, Node, split, clique}
-use Rattle.limit.specs.Rule.{smallestFrom, splitWith, cliqueOrSplit, markedWith, allMarked}
+use Rattle.equality.specs.Node.{Decisions, classOf, classes, Node, split, clique}
+use Rattle.limit.specs.Rule.{smallestFrom, classesLeft, firstClasses, splitWith, cliqueOrSplit, markedWith, allMarked}
 use Rattle.limit.specs.Scan.{classesFrom, classesUpTo, isClique, pairsAt}
 use Rattle.limit.proofs.Among.{Pairwise, pairwise-map, pairwise-with}
 use Rattle.limit.proofs.Left.{from-all, from-rising}
@@ -61,13 +61,13 @@ module _ (cs : List ℕ) where
   pub first-all : (g n : ℕ) → length (classesUpTo cs n) ≤ suc g → take (suc g) (classesUpTo cs n) ≡ classesUpTo cs n
   first-all g n few = take-all (suc g) (classesUpTo cs n) few
 
-  -- ---- their pairs, lot by lot
+  -- ---- those from a lot on, and their pairs, lot by lot
 
-  from-step : (end x : ℕ) → x < end → classesFrom cs end x ≡ cond (eqb (classOf cs x) x) (x ∷ classesFrom cs end (suc x)) (classesFrom cs end (suc x))
+  pub from-step : (end x : ℕ) → x < end → classesFrom cs end x ≡ cond (eqb (classOf cs x) x) (x ∷ classesFrom cs end (suc x)) (classesFrom cs end (suc x))
   unfolding smallestFrom
   from-step end x h = let more : end - x ≡ suc (end - suc x) = omega arith in ap (λ (c : ℕ). smallestFrom cs c x) more
 
-  from-none : (end x : ℕ) → end ≤ x → classesFrom cs end x ≡ []
+  pub from-none : (end x : ℕ) → end ≤ x → classesFrom cs end x ≡ []
   unfolding smallestFrom
   from-none end x h = let none : end - x ≡ 0 = omega arith in ap (λ (c : ℕ). smallestFrom cs c x) none
 
@@ -121,6 +121,19 @@ module _ (cs : List ℕ) where
         go : (q : Bool) → leb end x ≡ q → pairsAt marks cs end x (suc x) ≡ cliqueOrSplit marks (classesFrom cs end x)
         go true e = pairs-end end x (suc x) (leb-true end x e) (omega arith) ∙ sym (ap (cliqueOrSplit marks) (from-none end x (leb-true end x e)) ∙ unfold cliqueOrSplit in refl)
         go false e = row (eqb (classOf cs x) x) ∙ ap (cliqueOrSplit marks) (sym (from-step end x (leb-false end x e)))
+
+-- ---- how many are found
+
+-- As many classes are left as were found, or more than the limit.
+module _ (g n end : ℕ) (ds : Decisions) (first : firstClasses g n ds ≡ smallestFrom (classes ds) end 0) where
+  found-left : length (smallestFrom (classes ds) end 0) ≡ length (take (suc g) (classesLeft n ds))
+  found-left = ap length (sym first)
+
+  pub few-left : length (smallestFrom (classes ds) end 0) ≤ g → length (classesLeft n ds) ≤ g
+  few-left few = omega (arith, found-left, length-take (suc g) (classesLeft n ds))
+
+  pub more-left : g < length (smallestFrom (classes ds) end 0) → g < length (classesLeft n ds)
+  more-left more = omega (arith, found-left, length-take (suc g) (classesLeft n ds))
 
 -- ---- two tests of marks that agree
 

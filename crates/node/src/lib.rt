@@ -280,8 +280,8 @@ fn first_open(
 }
 
 // What a node is that takes no condition under a limit, whose pairs of classes may be looked at from lots x and y on: met, where no more classes are left than
-// the limit; a split on the first pair that isn't marked apart; else a clique. The table is marked for this node alone: it costs the pairs set apart and, for
-// each of these classes, the lots up to the last of them, not the product of pairs and pairs.
+// the limit; a split on the first pair that isn't marked apart; else a clique. The table is marked for this node alone: it costs the lots, the pairs set
+// apart and the square of these classes, not the product of pairs and pairs.
 fn under_limit(
     map: Classes,
     lots: u16,
@@ -354,7 +354,7 @@ pub fn limited(
     ensures leaves { λ r. ⌜ ((s : List ℕ) (ds : Decisions) → Represents map (now (pairs .entry)) count ds → Stands (limitOf limit) lots s place ds → TermLeaves s found ds → Leaves (limitOf limit) lots s r ds) ⌝ }
     ensures outside { λ r. ⌜ Outside (now (pairs .entry)) (now (pairs .exit)) (length (now (pairs .entry)) - tableLength) ⌝ }
 {
-    if limit == 0 {
+    if limit == clique::NO_LIMIT {
         return found;
     }
     match place {

@@ -43,9 +43,6 @@ const LIMITED_MARKS_LENGTH: usize = LIMITED_PAIRS_LENGTH + marks::TABLE_LENGTH;
 // The number of the check that a grouping is long enough.
 const SHORT_GROUPING: u32 = 8;
 
-// Where a limit is 0 there is none.
-const NO_LIMIT: u16 = 0;
-
 // The settled levels: one for each condition that a sheet can have.
 const LEVELS_LENGTH: usize = 256;
 
@@ -286,7 +283,7 @@ fn without_limit(
         (now (grouping .entry)) (now (grouping .exit)) (now (store .entry)) (now (store .exit)) r ⌝ }
 {
     let mut pairs = [0u8; MARKS_LENGTH];
-    search_accepted(sheet, n, m, NO_LIMIT, &mut pairs, grouping, store)
+    search_accepted(sheet, n, m, clique::NO_LIMIT, &mut pairs, grouping, store)
 }
 
 // The same with one.
@@ -375,7 +372,7 @@ pub fn search_limited(
         } => {
             if clique::ill_limited(limit) {
                 return SearchAnswer::Refused {
-                    check: 20,
+                    check: clique::ILL_LIMITED,
                     place: limit,
                 };
             }
