@@ -6,24 +6,20 @@ use mathlib.Core.Path.{_≡_, sym, ap, _∙_}
 use native.Mathlib.Omega.{arith}
 use borrow.Author.Tests.{lt-ltb, le-ltb}
 use lib.Dec.{ltb}
-use lib.ListN.{length, take, length-take}
+use lib.ListN.{length}
 use Rattle.sheet.specs.Format.{mostLots}
 use Rattle.equality.specs.Node.{Decisions, classes}
 use Rattle.limit.specs.Rule.{smallestFrom, classesLeft, firstClasses, marksOf, allMarked, cliquePasses}
 use Rattle.limit.specs.Scan.{classesFrom, isClique, pairsAt}
-use Rattle.limit.proofs.Scan.{pairs-start, pairs-agree, all-marked}
+use Rattle.limit.proofs.Scan.{few-left, more-left, pairs-start, pairs-agree, all-marked}
 use Rattle.marks.specs.Marks.{Marks, markAt}
 use Rattle.marks.proofs.Marks.{marks-at}
 
 module _ (ds : Decisions) (g n end : ℕ) (first : firstClasses g n ds ≡ smallestFrom (classes ds) end 0) where
-  -- As many are found as the first classes are.
-  found-length : length (smallestFrom (classes ds) end 0) ≡ length (take (suc g) (classesLeft n ds))
-  found-length = ap length (sym first)
-
   -- At most g of them are no clique.
   pub few-classes : length (smallestFrom (classes ds) end 0) ≤ g → cliquePasses g n ds ≡ false
   unfolding cliquePasses
-  few-classes h = rw (le-ltb g (length (classesLeft n ds)) (omega (arith, found-length, length-take (suc g) (classesLeft n ds))))
+  few-classes h = rw (le-ltb g (length (classesLeft n ds)) (few-left g n end ds first h))
 
   -- Of more, the scan over their pairs by a table with the path's marks decides.
   pub pairs-decide : g < length (smallestFrom (classes ds) end 0) → end ≤ suc mostLots → {table : List ℕ} → Marks table 0 (classes ds) ds
@@ -42,4 +38,4 @@ module _ (ds : Decisions) (g n end : ℕ) (first : firstClasses g n ds ≡ small
       agrees u v low high = marks-at marks u v (omega arith) (omega arith) (λ e. omega arith)
 
       more : ltb g (length (classesLeft n ds)) ≡ true
-      more = lt-ltb g (length (classesLeft n ds)) (omega (arith, found-length, length-take (suc g) (classesLeft n ds)))
+      more = lt-ltb g (length (classesLeft n ds)) (more-left g n end ds first h)

@@ -15,7 +15,7 @@ use Rattle.sheet.specs.Checks.{Accepted, orElse, refusesIf, firstRefusal, sheet
 use Rattle.sheet.specs.Answers.{refused, answered, answerOf}
 use Rattle.sheet.proofs.Further.{further, further-accepted}
 use Rattle.sheet.proofs.Verdicts.{orElse-end}
-use Rattle.limit.specs.Meaning.{Limit, unlimited, upTo, illLimited, check20, limitChecks}
+use Rattle.limit.specs.Meaning.{Limit, unlimited, upTo, illLimited, check20, limitChecks, Admitted}
 use Rattle.limit.proofs.Range.{either-false}
 use Rattle.store.specs.Records.{recordLength, mostNodes}
 use Rattle.refutation.specs.Refutation.{check10, walkVerdict, listVerdictUnder, checkAnswerUnder, listVerdict, checkAnswer}
@@ -35,11 +35,6 @@ pub few-records : (list : List ℕ) → illSized list ≡ false → length list 
 few-records list e =
     ltb-false mostNodes (length list / recordLength)
     (either-false (eqb (length list) 0 || not (eqb (length list % recordLength) 0)) (ltb mostNodes (length list / recordLength)) e .1)
-
--- Where there is no limit, 20 passes.
-pub none-admitted : firstRefusal (limitChecks unlimited) ≡ Passes
-unfolding firstRefusal
-none-admitted = refl
 
 -- ---- the verdict
 
@@ -61,7 +56,7 @@ module _ (limit : Limit) (s list : List ℕ) where
       let rest : List Verdict = limitChecks limit ++ (check10 list ∷ walked ∷ []) in
       further s rest ∙ ap (λ (v : Verdict). orElse v (firstRefusal rest)) e
 
-  module _ (ok : Accepted s) (admitted : firstRefusal (limitChecks limit) ≡ Passes) where
+  module _ (ok : Accepted s) (admitted : Admitted limit) where
     length-first : listVerdictUnder limit lowestLot s list ≡ orElse (check10 list) (orElse walked Passes)
     unfolding listVerdictUnder firstRefusal
     length-first =

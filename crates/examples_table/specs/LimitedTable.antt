@@ -3,8 +3,9 @@
 use Prim.Native.Nat.{ℕ, _+_, _*_}
 use mathlib.Core.List.{List, [], _∷_, _++_, map}
 use mathlib.Core.Path.{_≡_, refl}
-use lib.ListN.{length, drop, replicate, set}
+use lib.ListN.{replicate, set}
 use Rattle.buffers.specs.Bytes.{number, twoBytes}
+use Rattle.buffers.specs.Written.{written}
 use Rattle.sheet.specs.Format.{headAt, signAt, spareAt, firstLotAt, secondLotAt, nextAt, zeroBytes, vacant}
 use Rattle.sheet.specs.Checks.{firstRefusal, lowestRefusal, check1, check2, check3, check4, wellFormed, check5, member, walkChain, walkChains, walked, check17And6, check7, sheetChecksWith, sheetVerdictWith}
 use Rattle.sheet.specs.Conditions.{chain, recordsFrom, termsFrom, countUp, conditions}
@@ -34,14 +35,20 @@ allApart =
     2 ∷ 0 ∷ 0 ∷ 0 ∷ 2 ∷ 0 ∷ 0 ∷ 0 ∷
     2 ∷ 0 ∷ 1 ∷ 0 ∷ 2 ∷ 0 ∷ 0 ∷ 0 ∷ []
 
--- Two lots, and no condition.
+-- Two lots, and no condition; one condition, withdrawn; no lots.
 unfoldable pub freeLots : List ℕ
 freeLots = 2 ∷ 0 ∷ 0 ∷ 0 ∷ 0 ∷ 0 ∷ []
+
+unfoldable pub freeWithdrawn : List ℕ
+freeWithdrawn = 2 ∷ 0 ∷ 1 ∷ 0 ∷ 0 ∷ 0 ∷ 0 ∷ 0 ∷ []
+
+unfoldable pub noLots : List ℕ
+noLots = 0 ∷ 0 ∷ 0 ∷ 0 ∷ 0 ∷ 0 ∷ []
 
 -- ---- the searches
 
 -- A sheet, a limit and how many records the store holds; the answer, the grouping written and the records.
-pub record Limited : Type 0 where
+pub record LimitedRow : Type 0 where
   pub sheet : List ℕ
   pub limit : ℕ
   pub room : ℕ
@@ -56,22 +63,18 @@ lentGrouping = replicate 4 170
 abbrev pub lentStore : ℕ → List ℕ
 lentStore room = replicate (recordLength * room + 3) 170
 
--- Bytes at the front of a buffer, the others untouched.
-abbrev pub over : List ℕ → List ℕ → List ℕ
-over bytes buffer = bytes ++ drop (length bytes) buffer
-
-abbrev pub searched : Limited → Outcome
+abbrev pub searched : LimitedRow → Outcome
 searched row = outcomeUnder (upTo (row .limit)) (row .sheet) lentGrouping (lentStore (row .room))
 
-abbrev pub expected : Limited → Outcome
+abbrev pub expected : LimitedRow → Outcome
 expected row =
     record {
       answer = row .answer;
-      grouping = over (row .grouped) lentGrouping;
-      store = over (encodeAll (row .nodes)) (lentStore (row .room));
+      grouping = written (row .grouped) lentGrouping;
+      store = written (encodeAll (row .nodes)) (lentStore (row .room));
     }
 
-abbrev pub row : List ℕ → ℕ → ℕ → Answer → List ℕ → List NodeRecord → Limited
+abbrev pub row : List ℕ → ℕ → ℕ → Answer → List ℕ → List NodeRecord → LimitedRow
 row s g room answer grouped nodes = record { sheet = s; limit = g; room = room; answer = answer; grouped = grouped; nodes = nodes }
 
 -- The list of document 01's C under the limit 1, and of the sheet of three classes under the limit 2.
@@ -85,7 +88,7 @@ listOfTwo =
     ∷ splitRecord 1 2 7 ∷ groundRecord 3
     ∷ cliqueRecord ∷ []
 
-unfoldable pub limitedRows : List Limited
+unfoldable pub limitedRows : List LimitedRow
 limitedRows =
     -- three classes under 1, 2 and 3: with one or two different numbers nobody can meet it, with three somebody can
     row allApart 1 8 (cannotWith 3) [] (splitRecord 0 1 3 ∷ groundRecord 1 ∷ cliqueRecord ∷ [])
@@ -96,6 +99,9 @@ limitedRows =
     -- free lots are joined, the lowest pair first, until no more classes are left than the limit
     ∷ row freeLots 1 8 (metWith 3) (0 ∷ 0 ∷ []) (splitRecord 0 1 0 ∷ splitRecord 0 2 0 ∷ metRecord ∷ [])
     ∷ row freeLots 2 8 (metWith 2) (0 ∷ 2 ∷ []) (splitRecord 0 1 0 ∷ metRecord ∷ [])
+    -- a withdrawn condition is passed over; with no lots there is lot 0's class alone
+    ∷ row freeWithdrawn 2 8 (metWith 2) (0 ∷ 2 ∷ []) (splitRecord 0 1 0 ∷ metRecord ∷ [])
+    ∷ row noLots 1 8 (metWith 1) [] (metRecord ∷ [])
     -- document 01's C: the conditions come first
     ∷ row sheetC 2 8 (metWith 5) (0 ∷ 2 ∷ 0 ∷ []) (splitRecord 1 2 3 ∷ groundRecord 2 ∷ splitRecord 1 3 0 ∷ splitRecord 0 1 0 ∷ metRecord ∷ [])
     ∷ row sheetC 1 8 (cannotWith 7) [] listOfC
@@ -109,16 +115,17 @@ limitedRows =
 
 -- ---- the proved tables
 
--- Each search comes to that, down to the last byte of both buffers. Where the store has room for one record less it is full, and its whole records are zero. 20
--- is before 8.
+-- Each search comes to that, down to the last byte of both buffers. Where the store has room for one record less, or for none, it is full, and its whole
+-- records are zero. 20 is before 8.
 pub limited :
     (map searched limitedRows ≡ map expected limitedRows)
     × (outcomeUnder (upTo 2) allApart lentGrouping (lentStore 6)
     ≡ record { answer = refused 9 6; grouping = lentGrouping; store = replicate 48 0 ++ replicate 3 170 })
+    × (outcomeUnder (upTo 3) allApart lentGrouping [] .answer ≡ refused 9 0)
     × (outcomeUnder (upTo 0) allApart [] [] .answer ≡ refused 20 0)
     × (outcomeUnder (upTo 3) allApart [] [] .answer ≡ refused 8 2)
-unfolding limitedRows number twoBytes headAt signAt spareAt firstLotAt secondLotAt nextAt zeroBytes vacant firstRefusal lowestRefusal check1 check2 check3 check4 wellFormed check5 member walkChain walkChains walked check17And6 check7 sheetChecksWith sheetVerdictWith chain recordsFrom termsFrom countUp conditions anyTerm someTerm merged classes marked value taken groundOrSplit isMet afterSame visitNode visit nodeCount metDecisions groupingBytes check8 groupingVerdictWith lowestUnmet evaluateAnswerWith check20 smallestFrom classesLeft splitWith cliqueOrSplit noneTaken nodeUnder markedWith allMarked cliquePasses limitedTree records encode ofKind decode recordsOf encodeAll resultOf verdictUnder outcomeUnder groundFails nearest walkFrom check10 walkVerdict listVerdictUnder checkAnswerUnder sheetC allApart freeLots
-limited = (refl, refl, refl, refl)
+unfolding limitedRows number twoBytes headAt signAt spareAt firstLotAt secondLotAt nextAt zeroBytes vacant firstRefusal lowestRefusal check1 check2 check3 check4 wellFormed check5 member walkChain walkChains walked check17And6 check7 sheetChecksWith sheetVerdictWith chain recordsFrom termsFrom countUp conditions anyTerm someTerm merged classes marked value taken groundOrSplit isMet afterSame visitNode visit nodeCount metDecisions groupingBytes check8 groupingVerdictWith lowestUnmet evaluateAnswerWith check20 smallestFrom classesLeft splitWith cliqueOrSplit noneTaken nodeUnder markedWith allMarked cliquePasses limitedTree records encode ofKind decode recordsOf encodeAll resultOf verdictUnder outcomeUnder groundFails nearest walkFrom check10 walkVerdict listVerdictUnder checkAnswerUnder sheetC allApart freeLots freeWithdrawn noLots
+limited = (refl, refl, refl, refl, refl)
 
 -- The list of the search with limit 2, with one byte changed, at a place counted from 0.
 abbrev pub changed : ℕ → ℕ → List ℕ

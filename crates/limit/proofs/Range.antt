@@ -7,13 +7,18 @@ use borrow.Author.Tests.{eqb-false, ltb-false}
 use lib.Dec.{eqb, ltb}
 use Rattle.sheet.specs.declared.Verdict.the-variants.{Passes}
 use Rattle.sheet.specs.Checks.{orElse, refusesIf, firstRefusal}
-use Rattle.limit.specs.Meaning.{upTo, mostLimit, illLimited, check20, limitChecks}
+use Rattle.limit.specs.Meaning.{unlimited, upTo, mostLimit, illLimited, check20, Admitted}
 use Rattle.limit.specs.Scan.{limitOf}
 
 -- Neither of two tests.
 pub either-false : (p q : Bool) → (p || q) ≡ false → (p ≡ false) × (q ≡ false)
 either-false true q e = absurd (false≢true (sym e))
 either-false false q e = (refl, e)
+
+-- Where there is no limit, 20 passes.
+pub none-admitted : Admitted unlimited
+unfolding firstRefusal
+none-admitted = refl
 
 -- A limit that is admitted is at least 1 and not too high,
 pub limit-within : (g : ℕ) → illLimited g ≡ false → (1 ≤ g) × (g ≤ mostLimit)
@@ -22,7 +27,7 @@ limit-within g e =
     omega (arith, eqb-false g 0 (both .0), ltb-false mostLimit g (both .1))
 
 -- and 20 passes it.
-pub limit-admitted : (g : ℕ) → illLimited g ≡ false → firstRefusal (limitChecks (upTo g)) ≡ Passes
+pub limit-admitted : (g : ℕ) → illLimited g ≡ false → Admitted (upTo g)
 unfolding firstRefusal check20
 limit-admitted g e = ap (λ (p : Bool). orElse (refusesIf p 20 g) Passes) e
 

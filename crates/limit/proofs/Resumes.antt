@@ -42,6 +42,11 @@ scan-start g n ds end first =
     ap (cliqueOrSplit (marksOf ds)) (first ∙ ap (λ (c : ℕ). smallestFrom (classes ds) c 0) (sym all))
     ∙ sym (pairs-start (classes ds) (marksOf ds) end 0)
 
+-- With more classes than the limit a node that takes no condition is what the scan finds.
+pub none-more : (g n : ℕ) (ds : Decisions) → g < length (classesLeft n ds) → noneTaken (upTo g) n ds ≡ cliqueOrSplit (marksOf ds) (firstClasses g n ds)
+unfolding noneTaken
+none-more g n ds more = rw (lt-leb (length (classesLeft n ds)) g more)
+
 -- ---- the first pair not marked
 
 module _ (marks : ℕ → ℕ → Bool) where
@@ -206,11 +211,6 @@ module _ (ds : Decisions) (x y : ℕ) where
       ap (cliqueOrSplit (marksOf (apart x y ∷ ds))) first
       ∙ resumes end (sym (ap (cliqueOrSplit (marksOf ds)) here) ∙ e)
 
-  -- With more classes than the limit a node that takes no condition is what the scan finds.
-  pub none-more : (g n : ℕ) → g < length (classesLeft n ds) → noneTaken (upTo g) n ds ≡ cliqueOrSplit (marksOf ds) (firstClasses g n ds)
-  unfolding noneTaken
-  none-more g n more = rw (lt-leb (length (classesLeft n ds)) g more)
-
   -- A node that takes no condition and is a split is one on a pair of classes, after which its apart branch goes on.
   pub pair-resumes : (g n : ℕ) (tss : List (List Term)) → taken ds 1 tss ≡ noCondition → noneTaken (upTo g) n ds ≡ split x y
       → ResumesAfter g n tss x y (apart x y ∷ ds)
@@ -219,7 +219,7 @@ module _ (ds : Decisions) (x y : ℕ) where
       record {
         none = taken-apart ds x y 1 tss ∙ none;
         rises = at .0;
-        pairs = resumes-pairs g n (sym (none-more g n (at .1)) ∙ e);
+        pairs = resumes-pairs g n (sym (none-more g n ds (at .1)) ∙ e);
       }
     where
       pair-at : Kind g n tss ds (split x y) → (x < y) × (g < length (classesLeft n ds))

@@ -7,8 +7,9 @@ use mathlib.Core.Path.{_≡_}
 use lib.Dec.{leb, ltb, eqb}
 use lib.ListN.{length}
 use Rattle.sheet.specs.declared.Verdict.{Verdict}
+use Rattle.sheet.specs.declared.Verdict.the-variants.{Passes}
 use Rattle.sheet.specs.Format.{lotCount}
-use Rattle.sheet.specs.Checks.{refusesIf}
+use Rattle.sheet.specs.Checks.{refusesIf, firstRefusal}
 use Rattle.sheet.specs.Conditions.{countUp}
 use Rattle.equality.specs.Meaning.{Assignment, Meets}
 
@@ -32,6 +33,10 @@ check20 g = refusesIf (illLimited g) 20 g
 abbrev pub limitChecks : Limit → List Verdict
 limitChecks unlimited = []
 limitChecks (upTo g) = check20 g ∷ []
+
+-- "a cap that 20 admits", or none.
+abbrev pub Admitted : Limit → Type 0
+Admitted limit = firstRefusal (limitChecks limit) ≡ Passes
 
 -- ---- different numbers
 

@@ -15,7 +15,7 @@ use Rattle.sheet.proofs.Verdicts.{passes-firstRefusal, firstRefusal-passes}
 use Rattle.sheet.proofs.Further.{further, further-passes, further-accepted}
 use Rattle.sheet.proofs.Numbered.{Numbered, either, test, sheet-numbered}
 use Rattle.equality.specs.Evaluator.{check8, groupingVerdict, groupingVerdictWith}
-use Rattle.limit.specs.Meaning.{Limit, unlimited, upTo, mostLimit, check20, limitChecks}
+use Rattle.limit.specs.Meaning.{Limit, unlimited, upTo, mostLimit, illLimited, check20, limitChecks, Admitted}
 use Rattle.refutation.proofs.Smaller.{admitted-first}
 use Rattle.outcome.specs.Outcome.{check9, searchVerdict, searchOutcome, searchOutcomeWith, ZeroGroup}
 use Rattle.outcome.specs.Limited.{verdictUnder, check9Under, searchVerdictUnder, outcomeUnder, ZeroGroupUnder}
@@ -39,13 +39,10 @@ unlimited-zero s grouping h = h
 
 -- ---- a limit that 20 admits, and one that it refuses
 
--- The limit is admitted.
-abbrev pub Admitted : Limit → Type 0
-Admitted limit = firstRefusal (limitChecks limit) ≡ Passes
-
-pub none-checked : Admitted unlimited
-unfolding firstRefusal
-none-checked = refl
+-- A limit that is refused: 20 is before 8.
+pub limit-refused : (g : ℕ) (s grouping : List ℕ) → Accepted s → illLimited g ≡ true → verdictUnder (upTo g) s grouping ≡ Refuses 20 g
+unfolding verdictUnder firstRefusal check20
+limit-refused g s grouping ok out = further-accepted s (check20 g ∷ check8 s grouping ∷ []) ok ∙ rw out
 
 pub admitted : (g : ℕ) → 1 ≤ g → g ≤ mostLimit → Admitted (upTo g)
 unfolding firstRefusal check20
@@ -100,10 +97,5 @@ module _ (limit : Limit) (s grouping : List ℕ) where
       rest : (l : Limit) → Numbered (firstRefusal (limitChecks l ++ check8 s grouping ∷ []))
       rest unlimited = last
       rest (upTo g) =
-          either (refusesIf (eqb g 0 || ltb mostLimit g) 20 g) (firstRefusal (check8 s grouping ∷ []))
-          (test (eqb g 0 || ltb mostLimit g) 20 g (omega arith, λ e. omega arith)) last
-
--- A limit that is refused: 20 is before 8.
-pub limit-refused : (g : ℕ) (s grouping : List ℕ) → Accepted s → (eqb g 0 || ltb mostLimit g) ≡ true → verdictUnder (upTo g) s grouping ≡ Refuses 20 g
-unfolding verdictUnder firstRefusal check20
-limit-refused g s grouping ok out = further-accepted s (check20 g ∷ check8 s grouping ∷ []) ok ∙ rw out
+          either (refusesIf (illLimited g) 20 g) (firstRefusal (check8 s grouping ∷ []))
+          (test (illLimited g) 20 g (omega arith, λ e. omega arith)) last

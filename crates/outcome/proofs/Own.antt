@@ -26,7 +26,7 @@ use Rattle.buffers.proofs.Lists.{all-map}
 use Rattle.equality.proofs.Rule.{TakenAt, GroundAt, ground-at, ground-false, never-clique}
 use Rattle.equality.specs.Visits.{Visits, visits-met, visits-ground, visits-clique, visits-one, visits-two}
 use Rattle.equality.proofs.Sheets.{sheet-depth}
-use Rattle.limit.specs.Meaning.{Limit, unlimited, upTo, limitChecks}
+use Rattle.limit.specs.Meaning.{Limit, unlimited, upTo, limitChecks, Admitted}
 use Rattle.limit.specs.Rule.{nodeUnder}
 use Rattle.limit.proofs.Pairs.{most-pairs}
 use Rattle.limit.proofs.Passes.{own-passes}
@@ -113,7 +113,7 @@ module _ (limit : Limit) (s : List ℕ) (ok : Accepted s) where
       le-trans (under-depth (upTo g) (lotCount s) (conditions s) (conditions-in s ok)) (most-pairs (lotCount s) (sound s ok .header .lots))
 
   -- Where the search has no met node and at most 65,535 nodes, its bytes pass.
-  module _ (admitted : firstRefusal (limitChecks limit) ≡ Passes) (m : isMet (treeOf limit s) ≡ false) (few : nodeCount (treeOf limit s) ≤ mostNodes) where
+  module _ (admitted : Admitted limit) (m : isMet (treeOf limit s) ≡ false) (few : nodeCount (treeOf limit s) ≤ mostNodes) where
     tree : Tree
     tree = treeOf limit s
 

@@ -14,7 +14,7 @@ use Rattle.sheet.specs.Checks.{refusesIf, firstRefusal, lotInRange}
 use Rattle.sheet.specs.Conditions.{same}
 use Rattle.sheet.proofs.Verdicts.{passed-on, orElse-passes, passes-orElse, refusesIf-passes, firstRefusal-passes, passes-firstRefusal}
 use Rattle.sheet.proofs.Further.{further-accepted}
-use Rattle.limit.specs.Meaning.{Limit, unlimited, upTo, check20, limitChecks}
+use Rattle.limit.specs.Meaning.{Limit, unlimited, upTo, check20, limitChecks, Admitted}
 use Rattle.limit.specs.Rule.{cliquePasses}
 use Rattle.limit.proofs.Passes.{passes-smaller}
 use Rattle.limit.proofs.Slack.{Looser}
@@ -78,14 +78,14 @@ module _ (looser limit : Limit) (h : Looser looser limit) (s : List ℕ) where
       record-carries (walkFrom looser lowestLot s rest) (walkFrom limit lowestLot s rest) (walk-carries rest) rest at above r e
 
 -- A limit that is admitted leaves what is checked after it.
-pub admitted-first : (limit : Limit) → firstRefusal (limitChecks limit) ≡ Passes → (rest : List Verdict)
+pub admitted-first : (limit : Limit) → Admitted limit → (rest : List Verdict)
     → firstRefusal (limitChecks limit ++ rest) ≡ firstRefusal rest
 unfolding firstRefusal
 admitted-first unlimited e rest = refl
 admitted-first (upTo g) e rest = passed-on (firstRefusal-passes (check20 g) [] e .0)
 
 -- Under a smaller limit, or one where there was none, the list still refutes the sheet, if 20 admits it.
-pub smaller-refutes : (looser limit : Limit) → Looser looser limit → (s list : List ℕ) → firstRefusal (limitChecks limit) ≡ Passes
+pub smaller-refutes : (looser limit : Limit) → Looser looser limit → (s list : List ℕ) → Admitted limit
     → RefutesUnder looser s list → RefutesUnder limit s list
 unfolding listVerdictUnder walkVerdict
 smaller-refutes looser limit h s list admitted passes =

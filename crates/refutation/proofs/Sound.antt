@@ -24,7 +24,7 @@ use Rattle.equality.proofs.Some.{some-none}
 use Rattle.equality.specs.Opens.{Small}
 use Rattle.equality.proofs.Small.{conditions-small}
 use Rattle.equality.proofs.Right.{false-unmet}
-use Rattle.limit.specs.Meaning.{Limit, unlimited, upTo, Keeps, check20, limitChecks}
+use Rattle.limit.specs.Meaning.{Limit, unlimited, upTo, Keeps, check20, limitChecks, Admitted}
 use Rattle.limit.specs.Rule.{cliquePasses}
 use Rattle.limit.proofs.Passes.{passes-sound}
 use Rattle.store.specs.Records.{NodeRecord, splitRecord, groundRecord, metRecord, cliqueRecord, noRecord, recordsOf}
@@ -144,7 +144,7 @@ module _ (limit : Limit) {A : Type 0} (decide : (x y : A) → Dec (x ≡ y)) (f 
 -- What a list that passes has passed: the sheet is accepted, the limit is admitted, and so is each record.
 pub record PassedAll (limit : Limit) (s list : List ℕ) : Type 0 where
   pub accepted : Accepted s
-  pub admitted : firstRefusal (limitChecks limit) ≡ Passes
+  pub admitted : Admitted limit
   pub long : check10 list ≡ Passes
   pub walked : walkVerdict limit lowestLot s list ≡ Passes
 
@@ -164,7 +164,7 @@ passed-all limit s list passes =
     rest : List Verdict
     rest = check10 list ∷ walkVerdict limit lowestLot s list ∷ []
 
-    split-list : (l : Limit) → firstRefusal (limitChecks l ++ rest) ≡ Passes → (firstRefusal (limitChecks l) ≡ Passes) × (firstRefusal rest ≡ Passes)
+    split-list : (l : Limit) → firstRefusal (limitChecks l ++ rest) ≡ Passes → Admitted l × (firstRefusal rest ≡ Passes)
     split-list unlimited e = (unfold firstRefusal in refl, e)
     split-list (upTo g) e =
         let both = firstRefusal-passes (check20 g) rest e in

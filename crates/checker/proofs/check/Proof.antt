@@ -8,7 +8,8 @@ use Rattle.sheet.specs.declared.Verdict.the-variants.{Refuses}
 use Rattle.sheet.specs.Answers.{readingAnswer}
 use Rattle.sheet.proofs.Readings.{ReadAs, read-accepts, read-refuses}
 use Rattle.limit.specs.Meaning.{unlimited}
-use Rattle.checker.proofs.Entry.{illSized, few-records, none-admitted, sheet-refused, size-refused, walk-decides, EnsuredUnlimited, ensured-unlimited}
+use Rattle.limit.proofs.Range.{none-admitted}
+use Rattle.checker.proofs.Entry.{illSized, few-records, sheet-refused, size-refused, walk-decides, EnsuredUnlimited, ensured-unlimited}
 use Rattle.checker.proofs.check.Statement.{statement}
 use Rattle.checker.proofs.check.Tie as tie
 

@@ -5,7 +5,8 @@ use native.Mathlib.Omega.{arith}
 use Rattle.sheet.specs.Answers.{readingAnswer}
 use Rattle.sheet.proofs.Readings.{ReadAs, read-accepts, read-refuses}
 use Rattle.limit.specs.Meaning.{unlimited}
-use Rattle.outcome.proofs.Checked.{under-refused, under-short, under-all, none-checked}
+use Rattle.limit.proofs.Range.{none-admitted}
+use Rattle.outcome.proofs.Checked.{under-refused, under-short, under-all}
 use Rattle.search.specs.declared.SearchAnswer.the-variants.{Refused}
 use Rattle.search.proofs.Entry.{refused-ends, ensured}
 use Rattle.search.proofs.search.Statement.{statement}
@@ -36,7 +37,7 @@ returns c =
     let a = accepted (c .before .before) in
     let begin = c .before .before .before .before .before .before .before .before .args in
     ensured (begin .sheet .now) (begin .grouping .now) (begin .store .now)
-    (under-short unlimited (begin .sheet .now) (begin .grouping .now) (a .accepted) none-checked (omega (arith, a .lots, c .if1 .taken)))
+    (under-short unlimited (begin .sheet .now) (begin .grouping .now) (a .accepted) none-admitted (omega (arith, a .lots, c .if1 .taken)))
     (begin .grouping .now) (begin .store .now) (Refused 8 _)
     (rw (a .lots) (refused-ends unlimited (begin .sheet .now) (begin .grouping .now) (begin .store .now) 8 _))
 
@@ -65,7 +66,7 @@ returns-3 c =
     let a = accepted (c .before .before .before .before .before .before .before .before .before) in
     let begin = c .before .before .before .before .before .before .before .before .before .before .before .before .before .before .before .args in
     ensured (begin .sheet .now) (begin .grouping .now) (begin .store .now)
-    (under-all unlimited (begin .sheet .now) (begin .grouping .now) (a .accepted) none-checked (omega (arith, a .lots, c .before .before .before .before .before .before .before .if1 .left)))
+    (under-all unlimited (begin .sheet .now) (begin .grouping .now) (a .accepted) none-admitted (omega (arith, a .lots, c .before .before .before .before .before .before .before .if1 .left)))
     (c .before .before .before .before .without-limit .last .1 .1 .1 .0) (c .before .before .before .before .without-limit .last .1 .1 .1 .1 .0) (c .before .before .before .before .without-limit .result)
     (rw (a .lots) at (c .before .before .before .before .without-limit .ensures))
 

@@ -6,9 +6,9 @@ use mathlib.Core.Path.{_≡_, sym, ap, _∙_}
 use native.Mathlib.Omega.{arith}
 use Rattle.sheet.specs.Answers.{readingAnswer}
 use Rattle.sheet.proofs.Readings.{ReadAs, read-accepts, read-refuses}
-use Rattle.limit.specs.Meaning.{upTo, mostLimit, illLimited}
+use Rattle.limit.specs.Meaning.{upTo, mostLimit, illLimited, Admitted}
 use Rattle.limit.proofs.Range.{limit-within, limit-admitted}
-use Rattle.outcome.proofs.Checked.{Admitted, under-refused, under-short, under-all, limit-refused}
+use Rattle.outcome.proofs.Checked.{under-refused, under-short, under-all, limit-refused}
 use Rattle.search.specs.declared.SearchAnswer.the-variants.{Refused}
 use Rattle.search.proofs.Entry.{refused-ends, ensured-under}
 use Rattle.search.proofs.search_limited.Statement.{statement}
