@@ -25,6 +25,15 @@ pub fn long_limited(terms: usize) -> Sheet {
     sheet
 }
 
+/// A "same" term for each two of lots 0 to 128 but 0 and 1, all in one condition, and lots 0 and 1 apart: more terms than a sheet may have, for a reader that
+/// accepts it all the same (`bench/deepest.sh`). Under the limit 1 a path has a split for each two lots, 8,256, and ends at a clique.
+pub fn each_pair() -> Sheet {
+    let mut sheet = Sheet::new(128);
+    sheet.condition(same_pairs(129, usize::MAX).into_iter().map(|term| same(term.a - 1, term.b - 1)).skip(1));
+    sheet.condition([apart(0, 1)]);
+    sheet
+}
+
 /// The longest chain that a sheet can have, of 1,024 "same" terms.
 pub fn longest_chain() -> Sheet {
     let mut sheet = Sheet::new(128);

@@ -48,6 +48,7 @@ measure report            write the plots and tables again from the data
 measure row SERVICE KEY   time one input alone, and write nothing
 measure compare           compare alone
 measure stack             run the deepest search and check on the program's own stack
+measure deepest           the stack of a limited search on a path of 8,256 splits, for bench/deepest.sh
 measure once SERVICE KEY CONTENDER     one call, for counting instructions";
 
 fn main() -> ExitCode {
@@ -62,6 +63,7 @@ fn main() -> ExitCode {
         ["row", service, key] => report::time_row(service, key),
         ["compare"] => report::compare_all(),
         ["stack"] => stack::on_own(),
+        ["deepest"] => stack::deepest(),
         ["once", service, key, contender] => instructions::once(service, key, contender),
         _ => {
             eprintln!("{USAGE}");

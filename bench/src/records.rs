@@ -30,7 +30,6 @@ pub fn set_next(record: &mut [u8; 8], next: usize) {
 }
 
 /// The most splits above a record of a list.
-#[cfg(test)]
 pub fn depth(list: &[u8]) -> usize {
     let (mut path, mut most) = (Vec::new(), 0);
     for record in list.chunks(8) {

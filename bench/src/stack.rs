@@ -4,7 +4,7 @@
 //! that would take follows from what a split takes on shorter ones.
 use crate::first_true::{self, Shape};
 use crate::jobs::{self, Buffers, Service, packed_length};
-use crate::records::answered;
+use crate::records::{answered, depth};
 use crate::{check, evaluate, families, lists, merge, repack, search};
 use lihumbay::raw::Numbers;
 use std::alloc::{Layout, alloc, dealloc};
@@ -147,6 +147,18 @@ pub fn all() -> Vec<(String, usize)> {
     rows
 }
 
+/// What the product's limited search takes on a path of as many splits as one can have. It is called with a sheet that has more terms than the reader admits,
+/// so that it says something only where `bench/deepest.sh` has put another reader into the archive.
+pub fn deepest() {
+    let (thread, sheet) = (used(&mut || {}), families::each_pair().bytes());
+    let (mut buffers, mut answer) = (Buffers::new(), answered(0, 0, 0));
+    let bytes = used(&mut || answer = search::LIMITED[0].1(&sheet, 1, &mut buffers.grouping, &mut buffers.store));
+    assert!(answer.check == 0 && answer.first == 2, "{answer:?}: the reader is the product's own, or the store is full");
+    let splits = depth(&buffers.store[..8 * answer.second as usize]);
+    assert!(splits == MOST_SPLITS, "a path of {splits} splits");
+    println!("search_limited, product, {splits} splits: {} bytes of stack", bytes - thread);
+}
+
 /// The product's search and check once on the program's own stack, without a limit on classes and with one, so that a limit set by the shell is tried.
 pub fn on_own() {
     let (sheet, list) = (families::long_condition(1023).bytes(), lists::deep(lists::CHAIN, 127));
@@ -163,7 +175,6 @@ pub fn on_own() {
 #[cfg(test)]
 mod tests {
     use super::*;
-    use crate::records::depth;
 
     #[test]
     fn limited_searches_have_paths_as_long_as_is_said() {
