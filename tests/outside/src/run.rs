@@ -50,7 +50,7 @@ fn compare_and_laws(case: &Case) -> Result<Answers, String> {
     Ok(answers)
 }
 
-/// Searches on both sides call themselves up to 1,024 levels deep: more stack than a test's thread has by itself.
+/// Searches on both sides call themselves up to 1,024 levels deep, and under a limit deeper: more stack than a test's thread has by itself.
 pub fn with_stack(work: impl FnOnce() + Send) {
     thread::scope(|scope| {
         let worker = thread::Builder::new().stack_size(64 << 20).spawn_scoped(scope, work).expect("a thread can be started");
