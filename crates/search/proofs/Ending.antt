@@ -18,10 +18,11 @@ use Rattle.buffers.specs.Written.{written}
 use Rattle.outcome.proofs.Fitting.{bytes-count}
 use Rattle.outcome.proofs.Grouping.{grouping-length}
 use Rattle.search.specs.declared.SearchAnswer.the-variants as answers
-use Rattle.search.specs.declared.Visited.{Visited}
-use Rattle.search.specs.declared.Visited.the-variants.{Met, Cannot, Full}
-use Rattle.search.specs.Visited.{endOf, Explored, EndsAs}
-use Rattle.search.proofs.Exploring.{Ended, ended-met, ended-cannot, ended-full, ended}
+use Rattle.visit.specs.declared.Visited.{Visited}
+use Rattle.visit.specs.declared.Visited.the-variants.{Met, Cannot, Full}
+use Rattle.visit.specs.Visited.{endOf, Explored}
+use Rattle.search.specs.Ends.{EndsAs}
+use Rattle.visit.proofs.Exploring.{Ended, ended-met, ended-cannot, ended-full, ended}
 
 -- ---- a buffer of which the first bytes were lent
 

@@ -16,7 +16,7 @@ use Rattle.search.specs.declared.SearchAnswer.the-variants.{Refused}
 use Rattle.search.specs.Answers.{searchAnswer}
 use Rattle.search.specs.Promises.{searchCase, RefusedExactly, FullExactly, FullPlace, MetExactly, MetGrouping, MetZero, CannotExactly, CannotWhichever, CannotAny, CannotRefutes, CountBounded}
 use Rattle.search.specs.Limited.{caseUnder, RefusedExactlyUnder, FullExactlyUnder, MetExactlyUnder, MetGroupingUnder, MetZeroUnder, CannotExactlyUnder, CannotWhicheverUnder, CannotRefutesUnder}
-use Rattle.search.specs.Visited.{EndsAs}
+use Rattle.search.specs.Ends.{EndsAs}
 use Rattle.search.proofs.Promised.{answer-of, refused-exactly, full-exactly, full-place, met-exactly, met-grouping, met-zero, cannot-exactly, cannot-whichever, cannot-any, cannot-refutes, count-bounded}
 use Rattle.search.proofs.Without.{unlimited-case, refused-plain, full-plain, met-plain, grouping-plain, zero-plain, cannot-plain, whichever-plain, any-plain, refutes-plain}
 

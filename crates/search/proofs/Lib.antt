@@ -1,8 +1,3 @@
-pub mod Exploring
-pub mod Limits
-pub mod Standing
-pub mod Splitting
-pub mod Room
 pub mod Promised
 pub mod Without
 pub mod Ending

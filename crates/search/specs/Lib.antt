@@ -1,5 +1,4 @@
-pub mod Limits
 pub mod Answers
 pub mod Promises
 pub mod Limited
-pub mod Visited
+pub mod Ends

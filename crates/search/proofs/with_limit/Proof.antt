@@ -2,7 +2,7 @@
 use borrow.Author.Needs.{needs}
 use mathlib.Core.Path.{refl}
 use Rattle.limit.proofs.Range.{limit-of}
-use Rattle.search.specs.Limits.{pairsRoom}
+use Rattle.visit.specs.Limits.{pairsRoom}
 use Rattle.search.proofs.with_limit.Statement.{statement}
 use Rattle.search.proofs.with_limit.Tie as tie
 

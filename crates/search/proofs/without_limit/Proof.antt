@@ -1,7 +1,7 @@
 -- `search::without_limit`: the bytes for the pairs of a path without a limit.
 use borrow.Author.Needs.{needs}
 use mathlib.Core.Path.{refl}
-use Rattle.search.specs.Limits.{pairsRoom}
+use Rattle.visit.specs.Limits.{pairsRoom}
 use Rattle.search.proofs.without_limit.Statement.{statement}
 use Rattle.search.proofs.without_limit.Tie as tie
 

@@ -1,0 +1,5 @@
+pub mod Exploring
+pub mod Limits
+pub mod Standing
+pub mod Splitting
+pub mod Room
