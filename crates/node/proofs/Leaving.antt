@@ -2,62 +2,84 @@
 use Prim.Native.Nat.{ℕ, zero, suc}
 use mathlib.Core.List.{List, _∷_}
 use mathlib.Core.Logic.{_≢_}
-use mathlib.Core.Path.{_≡_, sym, _∙_}
+use mathlib.Core.Path.{_≡_, refl, sym, _∙_}
 use native.Mathlib.Omega.{arith}
 use borrow.Author.Tests.{eq-eqb, ne-eqb}
 use Rattle.sheet.specs.Conditions.{apart, conditionAt, conditions}
-use Rattle.equality.specs.Node.{Decisions, noCondition, taken, node}
+use Rattle.equality.specs.Node.{Decisions, Taken, noCondition, takes, taken, Node, met, ground, split, node}
 use Rattle.limit.specs.Meaning.{Limit, unlimited, upTo}
 use Rattle.limit.specs.Rule.{noneTaken, nodeUnder}
 use Rattle.limit.specs.Scan.{ResumesAfter, limitOf}
 use Rattle.limit.proofs.Range.{limit-of}
-use Rattle.limit.proofs.Under.{unlimited-node}
-use Rattle.limit.proofs.Resumes.{under-none, under-takes, pair-resumes}
-use Rattle.node.specs.declared.Node as declared
-use Rattle.node.specs.declared.Node.the-variants.{Met, Ground, Split, Clique}
-use Rattle.node.specs.Place.{nodeAs, ResumesWithin, ResumesPair, TermLeaves, PairNode, Leaves}
+use Rattle.limit.proofs.Resumes.{under-takes, pair-resumes}
+use Rattle.node.specs.declared.Split as pair
+use Rattle.node.specs.declared.Untaken.{Untaken}
+use Rattle.node.specs.declared.Untaken.the-variants.{Met, Split, Clique}
+use Rattle.node.specs.Place.{untakenAs, ResumesWithin, ResumesPair, PairSplit, SplitLeaves, PairLeaves}
+use Rattle.node.proofs.Resuming.{none-met}
 use Rattle.node.proofs.Settling.{taken-number}
 
 -- ---- a condition is taken
 
+pub term-leaves : (limit : Limit) (n : ℕ) (s : List ℕ) (ds : Decisions) (on : pair.Split)
+    → ResumesWithin s (on .condition .0) (on .after .0) (apart (on .a .0) (on .b .0) ∷ ds) → SplitLeaves limit n s on ds
+term-leaves limit n s ds on leaves =
+    let number = taken-number (apart (on .a .0) (on .b .0) ∷ ds) s (on .condition .0) (conditionAt s (on .condition .0)) (leaves .condition) .0 in
+    rw (ne-eqb (on .condition .0) 0 (λ e. omega arith)) leaves
+
+-- ---- what a node is under a limit, by what it is without one
+
 module _ (limit : Limit) (n : ℕ) (s : List ℕ) (ds : Decisions) where
-  pub within-node : (c r : ℕ) → ResumesWithin s c r ds → (k : declared.Node) → nodeAs k ≡ node ds (conditions s) → nodeAs k ≡ nodeUnder limit n (conditions s) ds
-  within-node c r w k e = e ∙ sym (under-takes limit n (conditions s) ds c (conditionAt s c) (w .condition))
+  -- One that is not met takes a condition, and is the same under every limit:
+  taken-under : (k : Node) → (k ≡ met → ⊥) → k ≡ node ds (conditions s) → nodeUnder limit n (conditions s) ds ≡ k
+  taken-under k some e = go (taken ds 1 (conditions s)) refl
+    where
+      go : (w : Taken) → taken ds 1 (conditions s) ≡ w → nodeUnder limit n (conditions s) ds ≡ k
+      go noCondition q = absurd (some (e ∙ sym (none-met ds s q)))
+      go (takes c ts) q = under-takes limit n (conditions s) ds c ts q ∙ sym e
 
-  pub term-leaves : (k : declared.Node) → TermLeaves s k ds → Leaves limit n s k ds
-  term-leaves Met leaves = tt
-  term-leaves (Ground c) leaves = tt
-  term-leaves (Split on) leaves =
-      let number = taken-number (apart (on .a .0) (on .b .0) ∷ ds) s (on .condition .0) (conditionAt s (on .condition .0)) (leaves .condition) .0 in
-      rw (ne-eqb (on .condition .0) 0 (λ e. omega arith)) leaves
-  term-leaves Clique leaves = tt
+  -- a ground,
+  pub ground-under : (c : ℕ) → ground c ≡ node ds (conditions s) → nodeUnder limit n (conditions s) ds ≡ ground c
+  ground-under c e =
+      taken-under (ground c)
+      (λ q. let z : _≡_ {A = ℕ} 0 1 = cc in
+      omega arith)
+      e
 
-  -- None is taken.
-  none-node : taken ds 1 (conditions s) ≡ noCondition → (k : declared.Node) → nodeAs k ≡ noneTaken limit n ds → nodeAs k ≡ nodeUnder limit n (conditions s) ds
-  none-node none k e = e ∙ sym (under-none limit n (conditions s) ds none)
+  -- a split.
+  pub split-under : (a b : ℕ) → split a b ≡ node ds (conditions s) → nodeUnder limit n (conditions s) ds ≡ split a b
+  split-under a b e =
+      taken-under (split a b)
+      (λ q. let z : _≡_ {A = ℕ} 0 1 = cc in
+      omega arith)
+      e
 
-pair-leaves : (g n : ℕ) (s : List ℕ) (ds : Decisions) → taken ds 1 (conditions s) ≡ noCondition → (k : declared.Node) → PairNode k
-    → nodeAs k ≡ noneTaken (upTo g) n ds → Leaves (upTo g) n s k ds
+-- ---- none is taken
+
+pair-leaves : (g n : ℕ) (s : List ℕ) (ds : Decisions) → taken ds 1 (conditions s) ≡ noCondition → (k : Untaken) → PairSplit k
+    → untakenAs k ≡ noneTaken (upTo g) n ds → PairLeaves (upTo g) n s k ds
 pair-leaves g n s ds none Met pair e = tt
-pair-leaves g n s ds none (Ground c) pair e = absurd pair
 pair-leaves g n s ds none (Split on) pair e = rw (eq-eqb (on .condition .0) 0 pair) (pair-resumes ds (on .a .0) (on .b .0) g n (conditions s) none (sym e))
 pair-leaves g n s ds none Clique pair e = tt
 
--- Both, by the number that the code has for the limit.
-pub limited-node : (l n : ℕ) (s : List ℕ) (ds : Decisions) → l ≢ 0 → taken ds 1 (conditions s) ≡ noCondition → (k : declared.Node) → PairNode k
-    → nodeAs k ≡ noneTaken (upTo l) n ds → (nodeAs k ≡ nodeUnder (limitOf l) n (conditions s) ds) × Leaves (limitOf l) n s k ds
-limited-node l n s ds some none k pair e = rw (limit-of l (omega (arith, some))) (none-node (upTo l) n s ds none k e, pair-leaves l n s ds none k pair e)
+-- The node, and what it says of its apart branch, by the number that the code has for the limit: with one,
+pub limited-node : (l n : ℕ) (s : List ℕ) (ds : Decisions) → l ≢ 0 → taken ds 1 (conditions s) ≡ noCondition → (k : Untaken) → PairSplit k
+    → untakenAs k ≡ noneTaken (upTo l) n ds → (untakenAs k ≡ noneTaken (limitOf l) n ds) × PairLeaves (limitOf l) n s k ds
+limited-node l n s ds some none k pair e = rw (limit-of l (omega (arith, some))) (e, pair-leaves l n s ds none k pair e)
 
--- Without a limit the node is what it is by the conditions.
-pub no-limit-node : (l n : ℕ) (s : List ℕ) (ds : Decisions) → l ≡ 0 → (k : declared.Node) → nodeAs k ≡ node ds (conditions s) → nodeAs k ≡ nodeUnder (limitOf l) n (conditions s) ds
-no-limit-node l n s ds e k found = rw e (found ∙ sym (unlimited-node n (conditions s) ds))
+-- and without one.
+pub no-limit-met : (l n : ℕ) (ds : Decisions) → l ≡ 0 → met ≡ noneTaken (limitOf l) n ds
+unfolding noneTaken
+no-limit-met l n ds e = rw e
 
--- A node that is looked at after a pair takes no condition.
+-- ---- a node that is looked at after a pair
+
+-- It takes no condition,
 pub pair-none : (limit : Limit) (n : ℕ) (s : List ℕ) (x y : ℕ) (ds : Decisions) → ResumesPair limit n s x y ds → taken ds 1 (conditions s) ≡ noCondition
 pair-none unlimited n s x y ds w = absurd w
 pair-none (upTo g) n s x y ds w = w .none
 
--- It is only where there is a limit.
+-- and is only where there is a limit.
 pub resumes-limited : (l n : ℕ) (s : List ℕ) (x y : ℕ) (ds : Decisions) → ResumesPair (limitOf l) n s x y ds → (l ≢ 0) × ResumesAfter l n (conditions s) x y ds
 resumes-limited zero n s x y ds w = absurd w
 resumes-limited (suc g) n s x y ds w = ((λ e. omega arith), w)

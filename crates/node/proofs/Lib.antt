@@ -3,4 +3,4 @@ pub mod Settling
 mod Opening
 mod Resuming
 mod Pairing
-mod Leaving
+pub mod Leaving

@@ -18,7 +18,8 @@ use Rattle.classes.specs.Maps.{ClassMap}
 use Rattle.classes.specs.Pairs.{PairsWithin}
 use Rattle.marks.specs.Marks.{tableLength}
 use Rattle.node.specs.declared.Node as declared
-use Rattle.node.specs.declared.Node.the-variants.{Met, Ground, Split, Clique}
+use Rattle.node.specs.declared.Node.the-variants.{Met, Ground, Split}
+use Rattle.node.specs.declared.Untaken as untaken
 use Rattle.node.specs.declared.Split as pair
 use Rattle.node.specs.declared.Place.{Place}
 use Rattle.node.specs.declared.Place.the-variants.{Scan, Within, Nowhere, After}
@@ -29,7 +30,11 @@ abbrev pub nodeAs : declared.Node → Node
 nodeAs Met = met
 nodeAs (Ground c) = ground (c .0)
 nodeAs (Split on) = split (on .a .0) (on .b .0)
-nodeAs Clique = clique
+
+abbrev pub untakenAs : untaken.Untaken → Node
+untakenAs untaken.the-variants.Met = met
+untakenAs (untaken.the-variants.Split on) = split (on .a .0) (on .b .0)
+untakenAs untaken.the-variants.Clique = clique
 
 -- A split on a term of a condition.
 abbrev pub splitOn : Condition → written.Term → declared.Node
@@ -84,6 +89,13 @@ PlaceWithin s (Within c r) = OnChain s (r .0)
 PlaceWithin s Nowhere = Unit {0}
 PlaceWithin s (After x y) = x .0 < y .0
 
+-- The pair alone.
+abbrev pub Rises : Place → Type 0
+Rises Scan = Unit {0}
+Rises (Within c r) = Unit {0}
+Rises Nowhere = Unit {0}
+Rises (After x y) = x .0 < y .0
+
 -- ---- what a split says of its apart branch
 
 -- A split on a term: in its condition, after the term.
@@ -91,14 +103,12 @@ abbrev pub TermLeaves : List ℕ → declared.Node → Decisions → Type 0
 TermLeaves s Met ds = Unit {0}
 TermLeaves s (Ground c) ds = Unit {0}
 TermLeaves s (Split on) ds = ResumesWithin s (on .condition .0) (on .after .0) (apart (on .a .0) (on .b .0) ∷ ds)
-TermLeaves s Clique ds = Unit {0}
 
--- A split that has no condition, which has number 0, is on a pair of classes.
-abbrev pub PairNode : declared.Node → Type 0
-PairNode Met = Unit {0}
-PairNode (Ground c) = ⊥
-PairNode (Split on) = on .condition .0 ≡ 0
-PairNode Clique = Unit {0}
+-- A split on a pair of classes has no condition, which has number 0.
+abbrev pub PairSplit : untaken.Untaken → Type 0
+PairSplit untaken.the-variants.Met = Unit {0}
+PairSplit (untaken.the-variants.Split on) = on .condition .0 ≡ 0
+PairSplit untaken.the-variants.Clique = Unit {0}
 
 -- Where the apart branch goes on: after the pair of classes, or in the condition after the term.
 abbrev pub apartPlace : pair.Split → Place
@@ -108,8 +118,7 @@ apartPlace on = cond (eqb (on .condition .0) 0) (After (on .a) (on .b)) (Within 
 abbrev pub SplitLeaves : Limit → ℕ → List ℕ → pair.Split → Decisions → Type 0
 SplitLeaves limit n s on ds = Resumes limit n s (apartPlace on) (apart (on .a .0) (on .b .0) ∷ ds)
 
-abbrev pub Leaves : Limit → ℕ → List ℕ → declared.Node → Decisions → Type 0
-Leaves limit n s Met ds = Unit {0}
-Leaves limit n s (Ground c) ds = Unit {0}
-Leaves limit n s (Split on) ds = SplitLeaves limit n s on ds
-Leaves limit n s Clique ds = Unit {0}
+abbrev pub PairLeaves : Limit → ℕ → List ℕ → untaken.Untaken → Decisions → Type 0
+PairLeaves limit n s untaken.the-variants.Met ds = Unit {0}
+PairLeaves limit n s (untaken.the-variants.Split on) ds = SplitLeaves limit n s on ds
+PairLeaves limit n s untaken.the-variants.Clique ds = Unit {0}

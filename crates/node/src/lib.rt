@@ -7,16 +7,16 @@ ghost use lib.Dec.{eqb};
 ghost use lib.ListN.{length, set};
 ghost use Rattle.sheet.specs.Format.{mostLots};
 ghost use Rattle.sheet.specs.Conditions.{conditions};
-ghost use Rattle.equality.specs.Node.{Decisions, classes, node};
+ghost use Rattle.equality.specs.Node.{Decisions, noCondition, classes, taken, node};
 ghost use Rattle.limit.specs.Meaning.{Limit, upTo};
-ghost use Rattle.limit.specs.Rule.{noneTaken, nodeUnder};
+ghost use Rattle.limit.specs.Rule.{noneTaken};
 ghost use Rattle.limit.specs.Scan.{ScanFrom, limitOf};
 ghost use Rattle.classes.specs.Maps.{ClassMap};
 ghost use Rattle.classes.specs.Pairs.{Represents};
 ghost use Rattle.marks.specs.Marks.{tableLength, Room, Marks, Outside};
 ghost use Rattle.sheet.specs.Inner.{HasConditions, OnChain};
 ghost use Rattle.node.specs.Settled.{Settled, Later, ClearedAbove};
-ghost use Rattle.node.specs.Place.{Markable, ResumesWithin, Resumes, Stands, PlaceWithin, nodeAs, splitOn, TermLeaves, PairNode, apartPlace, Leaves};
+ghost use Rattle.node.specs.Place.{Markable, ResumesWithin, Resumes, Stands, PlaceWithin, Rises, nodeAs, untakenAs, splitOn, TermLeaves, PairSplit, apartPlace, PairLeaves};
 use classes::Classes;
 use clique::Found;
 use sheet::Condition;
@@ -60,10 +60,16 @@ impl Split {
     }
 }
 
-// What a node is.
+// What a node is by its conditions: met, where it takes none; otherwise a ground or a split of the condition taken.
 pub enum Node {
     Met,
     Ground(Condition),
+    Split(Split),
+}
+
+// What a node is that takes none, under a limit or none: met, a split on a pair of classes, or a clique.
+pub enum Untaken {
+    Met,
     Split(Split),
     Clique,
 }
@@ -290,27 +296,27 @@ fn under_limit(
     count: usize,
     x: usize,
     y: usize,
-) -> Node
+) -> Untaken
     requires { ⌜ Markable map (now pairs) count × (lots ≤ mostLots) × (x < y) ⌝ }
-    ensures node { λ r. ⌜ ((ds : Decisions) → Represents map (now (pairs .entry)) count ds → ScanFrom limit lots x y ds → nodeAs r ≡ noneTaken (upTo limit) lots ds) ⌝ }
-    ensures pair { λ r. ⌜ PairNode r ⌝ }
+    ensures node { λ r. ⌜ ((ds : Decisions) → Represents map (now (pairs .entry)) count ds → ScanFrom limit lots x y ds → untakenAs r ≡ noneTaken (upTo limit) lots ds) ⌝ }
+    ensures pair { λ r. ⌜ PairSplit r ⌝ }
     ensures outside { λ r. ⌜ Outside (now (pairs .entry)) (now (pairs .exit)) (length (now (pairs .entry)) - tableLength) ⌝ }
 {
     let first = clique::first_classes(&map.lots, lots, limit);
     if first.count <= (limit as usize) {
-        return Node::Met;
+        return Untaken::Met;
     }
     let place = pairs.len() - marks::TABLE_LENGTH;
     marks::stamp_pairs(pairs, place, &map.lots, count);
     let found = clique::first_open(&map.lots, pairs, place, x, y, first.end);
     match found {
-        Found::Open(low, high) => Node::Split(Split {
+        Found::Open(low, high) => Untaken::Split(Split {
             condition: Condition(0),
             a: low,
             b: high,
             after: Record(0),
         }),
-        Found::Clique => Node::Clique,
+        Found::Clique => Untaken::Clique,
     }
 }
 
@@ -338,33 +344,32 @@ pub fn node_at(
     }
 }
 
-// The same node under a limit or, where that is 0, none, of lots 0 to `lots`: one that takes a condition is what it is without a limit. Apart from `node_at`,
-// so that a search's level has one copy of the map for each of the two, and not one more.
-pub fn limited(
-    found: Node,
+// What a node is that takes no condition, under a limit or, where that is 0, none, of lots 0 to `lots`. Apart from `node_at`, so that a search's level has one
+// copy of the map for each of the two, and not one more; and asked only where no condition is taken, so that all other nodes go on as without a limit.
+pub fn none_taken(
     map: Classes,
     lots: u16,
     limit: u16,
     pairs: &mut [u8],
     count: usize,
     place: Place,
-) -> Node
-    requires { ⌜ Markable map (now pairs) count × (lots ≤ mostLots) × ((s : List ℕ) × PlaceWithin s place) ⌝ }
-    ensures node { λ r. ⌜ ((s : List ℕ) (ds : Decisions) → Represents map (now (pairs .entry)) count ds → Stands (limitOf limit) lots s place ds → nodeAs found ≡ node ds (conditions s) → nodeAs r ≡ nodeUnder (limitOf limit) lots (conditions s) ds) ⌝ }
-    ensures leaves { λ r. ⌜ ((s : List ℕ) (ds : Decisions) → Represents map (now (pairs .entry)) count ds → Stands (limitOf limit) lots s place ds → TermLeaves s found ds → Leaves (limitOf limit) lots s r ds) ⌝ }
+) -> Untaken
+    requires { ⌜ Markable map (now pairs) count × (lots ≤ mostLots) × Rises place ⌝ }
+    ensures node { λ r. ⌜ ((s : List ℕ) (ds : Decisions) → Represents map (now (pairs .entry)) count ds → Stands (limitOf limit) lots s place ds → taken ds 1 (conditions s) ≡ noCondition → untakenAs r ≡ noneTaken (limitOf limit) lots ds) ⌝ }
+    ensures leaves { λ r. ⌜ ((s : List ℕ) (ds : Decisions) → Represents map (now (pairs .entry)) count ds → Stands (limitOf limit) lots s place ds → taken ds 1 (conditions s) ≡ noCondition → PairLeaves (limitOf limit) lots s r ds) ⌝ }
     ensures outside { λ r. ⌜ Outside (now (pairs .entry)) (now (pairs .exit)) (length (now (pairs .entry)) - tableLength) ⌝ }
 {
     if limit == clique::NO_LIMIT {
-        return found;
+        return Untaken::Met;
     }
     match place {
-        Place::Within(_, _) => found,
+        Place::Within(_, _) => Untaken::Met,
         Place::Nowhere => under_limit(map, lots, limit, pairs, count, 0, 1),
         Place::After(x, y) => {
             let low = x.0 as usize;
             let next = (y.0 as usize) + 1;
             under_limit(map, lots, limit, pairs, count, low, next)
         }
-        Place::Scan => found,
+        Place::Scan => Untaken::Met,
     }
 }

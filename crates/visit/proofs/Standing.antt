@@ -30,7 +30,7 @@ use Rattle.marks.specs.Marks.{tableLength}
 use Rattle.node.specs.declared.Place.{Place}
 use Rattle.node.specs.declared.Place.the-variants.{Scan, Within, Nowhere, After}
 use Rattle.node.specs.declared.Split.{Split}
-use Rattle.node.specs.Place.{Markable, ResumesPair, Resumes, PlaceWithin, SplitLeaves}
+use Rattle.node.specs.Place.{Markable, ResumesPair, Resumes, PlaceWithin, Rises, SplitLeaves}
 use Rattle.node.specs.Settled.{Settled, Later}
 use Rattle.node.proofs.Settling.{taken-number, joined-settled, same-settled, same-later, later-none, later-through}
 use Rattle.visit.specs.Limits.{pairsRoom}
@@ -50,7 +50,7 @@ openByMap limit s lots pairs count = openBy (limitOf limit) (lotCount s) (condit
 
 -- ---- the path
 
--- Where a visit may go on is within the sheet.
+-- Where a visit may go on is within the sheet,
 pub place-within : (limit : Limit) (s : List ℕ) (from : Place) (ds : Decisions) → Resumes limit (lotCount s) s from ds → PlaceWithin s from
 place-within limit s Scan ds resumes = tt
 place-within limit s (Within c r) ds resumes = resumes .passes .on
@@ -60,6 +60,13 @@ place-within limit s (After x y) ds resumes = go limit resumes
     go : (l : Limit) → ResumesPair l (lotCount s) s (x .0) (y .0) ds → x .0 < y .0
     go unlimited w = absurd w
     go (upTo g) w = w .rises
+
+-- and its pair rises.
+pub within-rises : (s : List ℕ) (from : Place) → PlaceWithin s from → Rises from
+within-rises s Scan within = tt
+within-rises s (Within c r) within = tt
+within-rises s Nowhere within = tt
+within-rises s (After x y) within = within
 
 -- What a split leaves, by whether it has a condition.
 abbrev LeavesBy : Limit → ℕ → List ℕ → Split → Decisions → Bool → Type 0

@@ -17,6 +17,7 @@ use classes::Classes;
 use node::Node;
 use node::Place;
 use node::Split;
+use node::Untaken;
 use sheet::Lot;
 use store::NodeNumber;
 use store::NodeRecord;
@@ -106,24 +107,30 @@ fn visit(
     }
     let place = node::locate(sheet, at.m, map, from, levels, at.level);
     let found = node::node_at(sheet, at.m, map, pairs, count, place);
-    let lots = grouping.len() as u16;
-    let node = node::limited(found, map, lots, at.limit, pairs, count, place);
-    match node {
-        Node::Met => {
-            store::write(store, NodeNumber(before + 1), NodeRecord::Met);
-            write_grouping(grouping, map);
-            Visited::Met(before + 1)
-        }
+    let on = match found {
         Node::Ground(c) => {
             store::write(store, NodeNumber(before + 1), NodeRecord::Ground(c));
-            Visited::Cannot(before + 1)
+            return Visited::Cannot(before + 1);
         }
-        Node::Clique => {
-            store::write(store, NodeNumber(before + 1), NodeRecord::Clique);
-            Visited::Cannot(before + 1)
+        Node::Split(on) => on,
+        Node::Met => {
+            let lots = grouping.len() as u16;
+            let untaken = node::none_taken(map, lots, at.limit, pairs, count, place);
+            match untaken {
+                Untaken::Met => {
+                    store::write(store, NodeNumber(before + 1), NodeRecord::Met);
+                    write_grouping(grouping, map);
+                    return Visited::Met(before + 1);
+                }
+                Untaken::Clique => {
+                    store::write(store, NodeNumber(before + 1), NodeRecord::Clique);
+                    return Visited::Cannot(before + 1);
+                }
+                Untaken::Split(on) => on,
+            }
         }
-        Node::Split(on) => branches(sheet, map, on, count, at, pairs, grouping, store, levels),
-    }
+    };
+    branches(sheet, map, on, count, at, pairs, grouping, store, levels)
 }
 
 // A split on two lots: its record, all under its same branch, in which its condition is settled, if it has one, and, if nothing was met there, all under its

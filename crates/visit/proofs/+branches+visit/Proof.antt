@@ -17,20 +17,26 @@ use Rattle.sheet.specs.Checks.{Accepted}
 use Rattle.sheet.specs.Format.{mostLots, lotCount}
 use Rattle.sheet.specs.Conditions.{same, apart, conditions}
 use Rattle.sheet.proofs.Accepted.{sound}
-use Rattle.equality.specs.Node.{Decisions, split}
+use Rattle.equality.specs.Node.{Decisions, noCondition, taken, split, node}
 use Rattle.equality.specs.Search.{Tree, groupingBytes}
 use Rattle.equality.specs.Visits.{Visits}
+use Rattle.equality.proofs.Rule.{met-none}
 use Rattle.equality.proofs.Visits.{met-tree, ground-tree, clique-tree, split-tree}
-use Rattle.limit.specs.Rule.{nodeUnder}
+use Rattle.limit.specs.Rule.{noneTaken}
 use Rattle.limit.specs.Scan.{limitOf}
+use Rattle.limit.proofs.Resumes.{under-none}
 use Rattle.store.specs.Records.{recordLength, splitRecord, groundRecord, metRecord, cliqueRecord, encode, capacity}
 use Rattle.classes.specs.Pairs.{Represents, Untouched}
 use Rattle.marks.proofs.Marks.{outside-front}
 use Rattle.node.specs.declared.Node as declared
+use Rattle.node.specs.declared.Node.the-variants as terms
+use Rattle.node.specs.declared.Untaken as untaken
+use Rattle.node.specs.declared.Split.{Split}
 use Rattle.node.specs.declared.Place.{Place}
 use Rattle.node.specs.declared.Place.the-variants.{Scan}
-use Rattle.node.specs.Place.{nodeAs, Resumes, Stands, SplitLeaves, Leaves}
+use Rattle.node.specs.Place.{nodeAs, untakenAs, Resumes, Stands, TermLeaves, SplitLeaves, PairLeaves}
 use Rattle.node.specs.Settled.{Later}
+use Rattle.node.proofs.Leaving.{ground-under, split-under, term-leaves}
 use Rattle.node.proofs.Settling.{later-none, later-through, later-above, restored-settled, restored-later}
 use Rattle.outcome.proofs.Fitting.{node-count}
 use Rattle.visit.specs.declared.Visited.{Visited}
@@ -40,7 +46,7 @@ use Rattle.visit.proofs.Visited as ends
 use Rattle.visit.proofs.Exploring.{none-explored, met-explored, ground-explored, clique-explored}
 use Rattle.visit.proofs.Splitting.{split-ended, split-over, split-apart}
 use Rattle.visit.proofs.Room.{has-place, number-fits}
-use Rattle.visit.proofs.Standing.{openByMap, notedBy, place-within, split-number, under-settled, under-later, same-level, apart-level, level-room, count-room, markable, entries-within, split-small, same-standing, same-less, pair-room, apart-standing, apart-less, below-standing, below-same, untouched-through}
+use Rattle.visit.proofs.Standing.{openByMap, notedBy, place-within, within-rises, split-number, under-settled, under-later, same-level, apart-level, level-room, count-room, markable, entries-within, split-small, same-standing, same-less, pair-room, apart-standing, apart-less, below-standing, below-same, untouched-through}
 use borrow.Fn.Kinds.{In}
 use borrow.Fn.PlainCycle.{Measures, is, falls, and}
 use Rattle.visit.proofs.branches.Reads as branches
@@ -53,8 +59,8 @@ use Rattle.classes.proofs.Classes.join.Reads as join-reads
 use Rattle.classes.proofs.set_apart.Reads as set-apart-reads
 use Rattle.node.proofs.clear_above.Reads as clear-above-reads
 use Rattle.node.proofs.locate.Reads as locate-reads
-use Rattle.node.proofs.limited.Reads as limited-reads
 use Rattle.node.proofs.node_at.Reads as node-at-reads
+use Rattle.node.proofs.none_taken.Reads as none-taken-reads
 use Rattle.node.proofs.Split.apart_place.Reads as apart-place-reads
 use Rattle.node.proofs.settle.Reads as settle-reads
 use Rattle.visit.proofs.Stage.in_apart.Reads as in-apart-reads
@@ -119,10 +125,10 @@ visit-claims t = (
   locate-reads.Learnt,
   node-at-reads.Asked,
   node-at-reads.Learnt,
-  limited-reads.Asked,
-  limited-reads.Learnt,
   write-reads.Asked,
   write-reads.Learnt,
+  none-taken-reads.Asked,
+  none-taken-reads.Learnt,
   write-grouping-reads.Asked,
   write-grouping-reads.Learnt,
   branches-below t,
@@ -574,27 +580,38 @@ module _ (t : ℕ) where
   abbrev Room : Type 0
   Room = visit-lts.Else1 (visit-claims t) (visit-at t) visit.Post
 
-  -- and where the node is known, and the pairs are back.
-  abbrev Known : Type 0
-  Known = visit-lts.After-slice-known7 (visit-claims t) (visit-at t) visit.Post
+  -- where the node is known by its conditions, and the pairs are back,
+  abbrev Found : Type 0
+  Found = visit-lts.After-slice-known6 (visit-claims t) (visit-at t) visit.Post
+
+  -- where it takes none and is known by the limit, and the pairs are back,
+  abbrev Looked : Type 0
+  Looked = visit-lts.After-slice-known8 (visit-claims t) (visit-at t) visit.Post
+
+  -- and where it is a split, on a term or on a pair of classes.
+  abbrev Splitting : Type 0
+  Splitting = visit-lts.At-match-came (visit-claims t) (visit-at t) visit.Post
 
   abbrev room-opened : Room → Opened
   room-opened c = c .before .before .before .before .before .before .before .before
 
-  abbrev looked : Known → visit-lts.After-limited (visit-claims t) (visit-at t) visit.Post
-  looked c = c .before .before
+  abbrev found-at : Found → visit-lts.After-node-at (visit-claims t) (visit-at t) visit.Post
+  found-at c = c .before .before
 
-  abbrev found-at : Known → visit-lts.After-node-at (visit-claims t) (visit-at t) visit.Post
-  found-at c = looked c .before .before .before .before
-
-  abbrev located : Known → visit-lts.After-locate (visit-claims t) (visit-at t) visit.Post
+  abbrev located : Found → visit-lts.After-locate (visit-claims t) (visit-at t) visit.Post
   located c = found-at c .before .before .before .before
 
-  abbrev roomy : Known → Room
+  abbrev roomy : Found → Room
   roomy c = located c .before .before
 
-  abbrev opened : Known → Opened
+  abbrev opened : Found → Opened
   opened c = room-opened (roomy c)
+
+  abbrev looked-at : Looked → visit-lts.After-none-taken (visit-claims t) (visit-at t) visit.Post
+  looked-at c = c .before .before
+
+  abbrev looked-found : Looked → Found
+  looked-found c = looked-at c .before .before .before .before
 
   abbrev sheet : Opened → List ℕ
   sheet c = c .args .sheet .now
@@ -616,59 +633,107 @@ module _ (t : ℕ) where
   visit-room c = omega (arith, c .before .capacity-of .ensures, c .if1 .left)
 
   -- where it stands,
-  visit-stands : (c : Known) (ds : Decisions) → Visited-by (opened c) ds
+  visit-stands : (c : Found) (ds : Decisions) → Visited-by (opened c) ds
       → Stands (limitOf (opened c .args .at .limit)) (length (opened c .args .grouping .now)) (sheet (opened c)) (located c .locate .result) ds
   visit-stands c ds at =
       let start = opened c in
       located c .locate .ensures .0 (limitOf (start .args .at .limit)) (length (start .args .grouping .now)) ds (at .0 .represents .lots)
       (subst (λ (n : ℕ). Resumes (limitOf (start .args .at .limit)) n (sheet start) (start .args .from) ds) (sym (start .pre .1 .0 .lots)) (at .1))
 
-  -- the pairs once the conditions' node has marked its table, or has not: they are as they were;
-  abbrev pairs₀ : Known → List ℕ
+  -- what it is by its conditions,
+  visit-found : (c : Found) (ds : Decisions) → Visited-by (opened c) ds → nodeAs (found-at c .node-at .result) ≡ node ds (conditions (sheet (opened c)))
+  visit-found c ds at = found-at c .node-at .ensures .0 _ _ ds (at .0 .represents) (visit-stands c ds at)
+
+  -- the pairs once its table was marked, or was not: they are as they were;
+  abbrev pairs₀ : Found → List ℕ
   pairs₀ c = found-at c .node-at .last .1 .1 .1 .0
 
-  abbrev pairs₀-sized : (c : Known) → length (pairs₀ c) ≡ length (opened c .args .pairs .now)
+  abbrev pairs₀-sized : (c : Found) → length (pairs₀ c) ≡ length (opened c .args .pairs .now)
   pairs₀-sized c = found-at c .node-at .kept .1 .1 .1 .0
 
-  untouched₀ : (c : Known) → Untouched (opened c .args .pairs .now) (pairs₀ c) (opened c .args .count)
+  untouched₀ : (c : Found) → Untouched (opened c .args .pairs .now) (pairs₀ c) (opened c .args .count)
   untouched₀ c = outside-front (found-at c .node-at .ensures .1 .1) (opened c .args .count) (omega (arith, opened c .pre .1 .1 .standing .room))
 
-  represents₀ : (c : Known) (ds : Decisions) → Standing (opened c .args .at .limit) (sheet (opened c)) (opened c .args .map) (opened c .args .pairs .now) (opened c .args .count) ds
-      → Represents (opened c .args .map) (pairs₀ c) (opened c .args .count) ds
-  represents₀ c ds st = below-standing st (pairs₀ c) (pairs₀-sized c) (untouched₀ c) .represents
+  standing₀ : (c : Found) (ds : Decisions) → Standing (opened c .args .at .limit) (sheet (opened c)) (opened c .args .map) (opened c .args .pairs .now) (opened c .args .count) ds
+      → Standing (opened c .args .at .limit) (sheet (opened c)) (opened c .args .map) (pairs₀ c) (opened c .args .count) ds
+  standing₀ c ds st = below-standing st (pairs₀ c) (pairs₀-sized c) (untouched₀ c)
 
-  -- what kind it is,
-  visit-node : (c : Known) (ds : Decisions) → Visited-by (opened c) ds → ruleOf (opened c .args .at .limit) (sheet (opened c)) ds ≡ nodeAs (looked c .limited .result)
-  visit-node c ds at =
+  -- that it takes none,
+  looked-none : (c : Looked) (ds : Decisions) → Visited-by (opened (looked-found c)) ds → taken ds 1 (conditions (sheet (opened (looked-found c)))) ≡ noCondition
+  looked-none c ds at =
+      met-none ds (conditions (sheet (opened (looked-found c)))) (sym (visit-found (looked-found c) ds at) ∙ ap nodeAs (looked-at c .before .before .enum-told .given .1))
+
+  -- and what it then is;
+  visit-looked : (c : Looked) (ds : Decisions) → Visited-by (opened (looked-found c)) ds
+      → ruleOf (opened (looked-found c) .args .at .limit) (sheet (opened (looked-found c))) ds ≡ untakenAs (looked-at c .none-taken .result)
+  visit-looked c ds at =
+      let start = opened (looked-found c) in
+      under-none (limitOf (start .args .at .limit)) (lotCount (sheet start)) (conditions (sheet start)) ds (looked-none c ds at)
+      ∙ sym (subst (λ (n : ℕ). untakenAs (looked-at c .none-taken .result) ≡ noneTaken (limitOf (start .args .at .limit)) n ds) (start .pre .1 .0 .lots)
+      (looked-at c .none-taken .ensures .0 (sheet start) ds (standing₀ (looked-found c) ds (at .0) .represents) (visit-stands (looked-found c) ds at) (looked-none c ds at)))
+
+  -- the pairs likewise.
+  abbrev pairs₁ : Looked → List ℕ
+  pairs₁ c = looked-at c .none-taken .last .1 .1 .1 .0
+
+  pairs₁-sized : (c : Looked) → length (pairs₁ c) ≡ length (opened (looked-found c) .args .pairs .now)
+  pairs₁-sized c = looked-at c .none-taken .kept .1 .1 .1 .0 ∙ pairs₀-sized (looked-found c)
+
+  untouched₁ : (c : Looked) → Untouched (opened (looked-found c) .args .pairs .now) (pairs₁ c) (opened (looked-found c) .args .count)
+  untouched₁ c i h =
+      let start = opened (looked-found c) in
+      outside-front (looked-at c .none-taken .ensures .1 .1) (start .args .count) (omega (arith, start .pre .1 .1 .standing .room, pairs₀-sized (looked-found c))) i h
+      ∙ untouched₀ (looked-found c) i h
+
+  -- ---- visit: a split
+
+  -- Its lots, where its apart branch goes on, and the pairs, which are as they were.
+  record Parts (c : Opened) (pairs : List ℕ) (on : Split) : Type 0 where
+    pub sized : length pairs ≡ length (c .args .pairs .now)
+    pub untouched : Untouched (c .args .pairs .now) pairs (c .args .count)
+    pub splits : (ds : Decisions) → Visited-by c ds → ruleOf (c .args .at .limit) (sheet c) ds ≡ split (on .a .0) (on .b .0)
+    pub leaves : (ds : Decisions) → Visited-by c ds → SplitLeaves (limitOf (c .args .at .limit)) (lotCount (sheet c)) (sheet c) on ds
+
+  -- On a term,
+  term-parts : (c : Found) (on : Split) → found-at c .node-at .result ≡ terms.Split on → Parts (opened c) (pairs₀ c) on
+  term-parts c on kind =
       let start = opened c in
-      let w = visit-stands c ds at in
-      sym (subst (λ (n : ℕ). nodeAs (looked c .limited .result) ≡ nodeUnder (limitOf (start .args .at .limit)) n (conditions (sheet start)) ds) (start .pre .1 .0 .lots)
-      (looked c .limited .ensures .0 (sheet start) ds (represents₀ c ds (at .0)) w (found-at c .node-at .ensures .0 _ _ ds (at .0 .represents) w)))
+      record {
+        sized = pairs₀-sized c;
+        untouched = untouched₀ c;
+        splits = λ ds at. split-under (limitOf (start .args .at .limit)) (lotCount (sheet start)) (sheet start) ds _ _ (sym (ap nodeAs kind) ∙ visit-found c ds at);
+        leaves = λ ds at.
+            term-leaves (limitOf (start .args .at .limit)) (lotCount (sheet start)) (sheet start) ds on
+            (subst (λ (k : declared.Node). TermLeaves (sheet start) k ds) kind (found-at c .node-at .ensures .1 .0 _ _ ds (at .0 .represents) (visit-stands c ds at)));
+      }
 
-  -- and, if it is a split, where its apart branch goes on.
-  visit-leaves : (c : Known) (ds : Decisions) → Visited-by (opened c) ds → (kind : declared.Node) → looked c .limited .result ≡ kind
-      → Leaves (limitOf (opened c .args .at .limit)) (lotCount (sheet (opened c))) (sheet (opened c)) kind ds
-  visit-leaves c ds at kind e =
-      subst (λ (n : declared.Node). Leaves (limitOf (opened c .args .at .limit)) (lotCount (sheet (opened c))) (sheet (opened c)) n ds) e
-      (subst (λ (n : ℕ). Leaves (limitOf (opened c .args .at .limit)) n (sheet (opened c)) (looked c .limited .result) ds) (opened c .pre .1 .0 .lots)
-      (looked c .limited .ensures .1 .0 (sheet (opened c)) ds (represents₀ c ds (at .0)) (visit-stands c ds at)
-      (found-at c .node-at .ensures .1 .0 _ _ ds (at .0 .represents) (visit-stands c ds at))))
+  -- and on a pair of classes.
+  pair-parts : (c : Looked) (on : Split) → looked-at c .none-taken .result ≡ untaken.the-variants.Split on → Parts (opened (looked-found c)) (pairs₁ c) on
+  pair-parts c on kind =
+      let start = opened (looked-found c) in
+      record {
+        sized = pairs₁-sized c;
+        untouched = untouched₁ c;
+        splits = λ ds at. visit-looked c ds at ∙ ap untakenAs kind;
+        leaves = λ ds at.
+            subst (λ (k : untaken.Untaken). PairLeaves (limitOf (start .args .at .limit)) (lotCount (sheet start)) (sheet start) k ds) kind
+            (subst (λ (n : ℕ). PairLeaves (limitOf (start .args .at .limit)) n (sheet start) (looked-at c .none-taken .result) ds) (start .pre .1 .0 .lots)
+            (looked-at c .none-taken .ensures .1 .0 (sheet start) ds (standing₀ (looked-found c) ds (at .0) .represents) (visit-stands (looked-found c) ds at)
+            (looked-none c ds at)));
+      }
 
-  -- Likewise once the limit's node has marked it.
-  abbrev pairs₁ : Known → List ℕ
-  pairs₁ c = looked c .limited .last .1 .1 .1 .1 .0
-
-  pairs₁-sized : (c : Known) → length (pairs₁ c) ≡ length (opened c .args .pairs .now)
-  pairs₁-sized c = looked c .limited .kept .1 .1 .1 .1 .0 ∙ pairs₀-sized c
-
-  visit-untouched : (c : Known) → Untouched (opened c .args .pairs .now) (pairs₁ c) (opened c .args .count)
-  visit-untouched c i h =
-      outside-front (looked c .limited .ensures .1 .1) (opened c .args .count) (omega (arith, opened c .pre .1 .1 .standing .room, pairs₀-sized c)) i h
-      ∙ untouched₀ c i h
-
-  visit-standing : (c : Known) (ds : Decisions) → Standing (opened c .args .at .limit) (sheet (opened c)) (opened c .args .map) (opened c .args .pairs .now) (opened c .args .count) ds
-      → Standing (opened c .args .at .limit) (sheet (opened c)) (opened c .args .map) (pairs₁ c) (opened c .args .count) ds
-  visit-standing c ds st = below-standing st (pairs₁ c) (pairs₁-sized c) (visit-untouched c)
+  parts : (c : Splitting) → Parts (opened (c .before)) (c .match .pairs) (c .match .on)
+  parts c =
+      ⊎-elim
+      (λ w. rw (w .3, w .4) (term-parts (c .before) _ (w .1 .given .1)))
+      (λ w.
+      let called : visit-lts.After-none-taken (visit-claims t) (visit-at t) visit.Post =
+      record {
+        before = record { before = record { before = record { before = c .before; match = w .0 }; enum-told = w .1 }; none-taken-arg = w .2 };
+        none-taken = w .3;
+      } in
+      rw (w .9, w .10) (pair-parts (record { before = record { before = called; pairs2 = w .4 }; slice-known8 = w .5 }) _ (w .7 .given .1)))
+      (c .match .came)
 
   -- ---- visit: its needs
 
@@ -698,108 +763,27 @@ module _ (t : ℕ) where
       let path = start .pre .1 .1 in
       (start .pre .1 .0 .sheet, place-within (limitOf (start .args .at .limit)) (sheet start) (start .args .from) (path .path) (path .resumes), path .settled)
 
-  visit-cast-lots : visit-lts.Need-cast-lots (visit-claims t) (visit-at t) visit.Post
-  visit-cast-lots c =
-      record { fits = omega (arith, lots-within (room-opened (c .before .before .before .before .before .before .before .before))) }
-
-  visit-limited-requires : visit-lts.Need-limited-requires (visit-claims t) (visit-at t) visit.Post
-  visit-limited-requires c κs =
-      let called = c .before .before .before in
-      let d = called .before .before .before .before in
-      let start = room-opened (d .before .before) in
-      let standing = start .pre .1 .1 .standing in (
-        markable
-            (below-standing standing (called .node-at .last .1 .1 .1 .0) (called .node-at .kept .1 .1 .1 .0)
-            (outside-front (called .node-at .ensures .1 .1) (start .args .count) (omega (arith, standing .room)))),
-        lots-within start,
-        (sheet start, d .locate .ensures .1 .0),
-      )
-
   visit-node-at-requires : visit-lts.Need-node-at-requires (visit-claims t) (visit-at t) visit.Post
   visit-node-at-requires c κs =
       let d = c .before .before .before in
       let start = room-opened (d .before .before) in
       (start .pre .1 .0 .sheet, markable (start .pre .1 .1 .standing), d .locate .ensures .1 .0)
 
-  -- It is met:
-  visit-enum-told : visit-lts.Need-enum-told (visit-claims t) (visit-at t) visit.Post
-  visit-enum-told c = search needs
+  -- It is a ground:
+  visit-enum-known-found : visit-lts.Need-enum-known-found (visit-claims t) (visit-at t) visit.Post
+  visit-enum-known-found c = search needs
 
   visit-add-t32 : visit-lts.Need-add-t32 (visit-claims t) (visit-at t) visit.Post
   visit-add-t32 c = search needs
 
   visit-write-requires : visit-lts.Need-write-requires (visit-claims t) (visit-at t) visit.Post
   visit-write-requires c κs =
-      let d = roomy (c .before .before .before) in
-      let start = room-opened d in
-      (has-place (start .args .store .now) (start .args .at .before) (visit-room d) (start .args .store .now) refl, tt)
-
-  visit-write-grouping-requires : visit-lts.Need-write-grouping-requires (visit-claims t) (visit-at t) visit.Post
-  visit-write-grouping-requires c κs =
-      let start = opened (c .before .before .before .before .before .before .before) in
-      (lots-within start, entries-within (start .pre .1 .1 .standing))
-
-  visit-add-t32-2 : visit-lts.Need-add-t32-2 (visit-claims t) (visit-at t) visit.Post
-  visit-add-t32-2 c = search needs
-
-  visit-enum-known-node : visit-lts.Need-enum-known-node (visit-claims t) (visit-at t) visit.Post
-  visit-enum-known-node c = search needs
-
-  visit-add-t40 : visit-lts.Need-add-t40 (visit-claims t) (visit-at t) visit.Post
-  visit-add-t40 c = search needs
-
-  visit-write-requires-2 : visit-lts.Need-write-requires-2 (visit-claims t) (visit-at t) visit.Post
-  visit-write-requires-2 c κs =
       let d = roomy (c .before .before .before .before) in
       let start = room-opened d in
       (has-place (start .args .store .now) (start .args .at .before) (visit-room d) (start .args .store .now) refl, search needs)
 
-  visit-add-t40-2 : visit-lts.Need-add-t40-2 (visit-claims t) (visit-at t) visit.Post
-  visit-add-t40-2 c = search needs
-
-  visit-enum-told-2 : visit-lts.Need-enum-told-2 (visit-claims t) (visit-at t) visit.Post
-  visit-enum-told-2 c = search needs
-
-  visit-add-t46 : visit-lts.Need-add-t46 (visit-claims t) (visit-at t) visit.Post
-  visit-add-t46 c = search needs
-
-  visit-write-requires-3 : visit-lts.Need-write-requires-3 (visit-claims t) (visit-at t) visit.Post
-  visit-write-requires-3 c κs =
-      let d = roomy (c .before .before .before) in
-      let start = room-opened d in
-      (has-place (start .args .store .now) (start .args .at .before) (visit-room d) (start .args .store .now) refl, tt)
-
-  visit-add-t46-2 : visit-lts.Need-add-t46-2 (visit-claims t) (visit-at t) visit.Post
-  visit-add-t46-2 c = search needs
-
-  visit-enum-known-node-2 : visit-lts.Need-enum-known-node-2 (visit-claims t) (visit-at t) visit.Post
-  visit-enum-known-node-2 c = search needs
-
-  visit-branches-requires : visit-lts.Need-branches-requires (visit-claims t) (visit-at t) visit.Post
-  visit-branches-requires c κs =
-      let split-found = c .before .before .before .before .before in
-      let found = split-found .before .before in
-      let start = opened found in
-      let path = start .pre .1 .1 in
-      let kind = split-found .node2 .given .1 in (
-        omega (arith, start .pre .0, below-same (path .standing) (pairs₁ found) (pairs₁-sized found) (visit-untouched found)),
-        (
-          start .pre .1 .0,
-          visit-room (roomy found),
-          record {
-            settled = located found .locate .ensures .1 .1 .0;
-            path = path .path;
-            standing = visit-standing found (path .path) (path .standing);
-            splits = visit-node found (path .path) (path .standing, path .resumes) ∙ ap nodeAs kind;
-            leaves = visit-leaves found (path .path) (path .standing, path .resumes) _ kind;
-            levels = path .levels;
-          },
-        ),
-      )
-
-  -- The ends of the met node,
-  abbrev grouped : visit-lts.After-slice-known9 (visit-claims t) (visit-at t) visit.Post → visit-lts.After-write-grouping (visit-claims t) (visit-at t) visit.Post
-  grouped c = c .before .before
+  visit-add-t32-2 : visit-lts.Need-add-t32-2 (visit-claims t) (visit-at t) visit.Post
+  visit-add-t32-2 c = search needs
 
   visit-same-length-2 : visit-lts.Need-same-length-2 (visit-claims t) (visit-at t) visit.Post
   visit-same-length-2 c = search needs
@@ -810,26 +794,61 @@ module _ (t : ℕ) where
   visit-same-length-4 : visit-lts.Need-same-length-4 (visit-claims t) (visit-at t) visit.Post
   visit-same-length-4 c = search needs
 
+  visit-returns-2 : visit-lts.Need-returns-2 (visit-claims t) (visit-at t) visit.Post
+  visit-returns-2 c =
+      let record-at = c .before .before in
+      let ground-found = record-at .before .before .before in
+      let found = ground-found .before .before in
+      let start = opened found in
+      let condition = ground-found .found .given in
+      let place : start .args .at .before + 1 - 1 ≡ start .args .at .before = omega arith in (
+        (λ ds tree st res v.
+            ground-explored (start .args .at .before) (start .args .store .now) _ (start .args .grouping .now) (visit-room (roomy found)) (condition .0 .0 .0) tree
+            (ground-tree v (ground-under (limitOf (start .args .at .limit)) (lotCount (sheet start)) (sheet start) ds _ (sym (ap nodeAs (condition .1)) ∙ visit-found found ds (st, res))))
+            (record-at .write .ensures ∙ ap (λ (k : ℕ). sets (start .args .store .now) (recordLength * k) (encode (groundRecord (condition .0 .0 .0)))) place)),
+        (untouched₀ found, located found .locate .ensures .1 .1 .1),
+      )
+
+  -- a split on a term; or it takes no condition:
+  visit-enum-known-found-2 : visit-lts.Need-enum-known-found-2 (visit-claims t) (visit-at t) visit.Post
+  visit-enum-known-found-2 c = search needs
+
+  visit-enum-told : visit-lts.Need-enum-told (visit-claims t) (visit-at t) visit.Post
+  visit-enum-told c = search needs
+
+  visit-cast-lots : visit-lts.Need-cast-lots (visit-claims t) (visit-at t) visit.Post
+  visit-cast-lots c = record { fits = omega (arith, lots-within (opened (c .before .before))) }
+
+  visit-none-taken-requires : visit-lts.Need-none-taken-requires (visit-claims t) (visit-at t) visit.Post
+  visit-none-taken-requires c κs =
+      let found = c .before .before .before in
+      let start = opened found in
+      (markable (standing₀ found _ (start .pre .1 .1 .standing)), lots-within start, within-rises (sheet start) (located found .locate .result) (located found .locate .ensures .1 .0))
+
+  -- it is met,
+  visit-enum-told-2 : visit-lts.Need-enum-told-2 (visit-claims t) (visit-at t) visit.Post
+  visit-enum-told-2 c = search needs
+
+  visit-add-t42 : visit-lts.Need-add-t42 (visit-claims t) (visit-at t) visit.Post
+  visit-add-t42 c = search needs
+
+  visit-write-requires-2 : visit-lts.Need-write-requires-2 (visit-claims t) (visit-at t) visit.Post
+  visit-write-requires-2 c κs =
+      let d = roomy (looked-found (c .before .before .before)) in
+      let start = room-opened d in
+      (has-place (start .args .store .now) (start .args .at .before) (visit-room d) (start .args .store .now) refl, tt)
+
+  visit-write-grouping-requires : visit-lts.Need-write-grouping-requires (visit-claims t) (visit-at t) visit.Post
+  visit-write-grouping-requires c κs =
+      let start = opened (looked-found (c .before .before .before .before .before .before .before)) in
+      (lots-within start, entries-within (start .pre .1 .1 .standing))
+
+  visit-add-t42-2 : visit-lts.Need-add-t42-2 (visit-claims t) (visit-at t) visit.Post
+  visit-add-t42-2 c = search needs
+
   visit-same-length-5 : visit-lts.Need-same-length-5 (visit-claims t) (visit-at t) visit.Post
   visit-same-length-5 c = search needs
 
-  visit-returns-2 : visit-lts.Need-returns-2 (visit-claims t) (visit-at t) visit.Post
-  unfolding groupingBytes
-  visit-returns-2 c =
-      let record-at = grouped c .before .before .before .before in
-      let told = record-at .before .before in
-      let found = told .before .before in
-      let start = opened found in
-      let place : start .args .at .before + 1 - 1 ≡ start .args .at .before = omega arith in (
-        (λ ds tree st res v.
-            met-explored (start .args .at .before) (start .args .store .now) _ (start .args .grouping .now) (visit-room (roomy found)) ds _ tree
-            (met-tree v (visit-node found ds (st, res) ∙ ap nodeAs (told .enum-told .given .1)))
-            (record-at .write .ensures ∙ ap (λ (k : ℕ). sets (start .args .store .now) (recordLength * k) (encode metRecord)) place)
-            (grouped c .write-grouping .ensures ∙ ap (λ (lots : List ℕ). take (length (start .args .grouping .now)) (drop 1 lots)) (st .represents .lots))),
-        (visit-untouched found, located found .locate .ensures .1 .1 .1),
-      )
-
-  -- of a ground,
   visit-same-length-6 : visit-lts.Need-same-length-6 (visit-claims t) (visit-at t) visit.Post
   visit-same-length-6 c = search needs
 
@@ -840,21 +859,38 @@ module _ (t : ℕ) where
   visit-same-length-8 c = search needs
 
   visit-returns-3 : visit-lts.Need-returns-3 (visit-claims t) (visit-at t) visit.Post
+  unfolding groupingBytes
   visit-returns-3 c =
-      let record-at = c .before .before in
-      let ground-found = record-at .before .before .before in
-      let found = ground-found .before .before in
-      let start = opened found in
-      let condition = ground-found .node .given in
+      let grouped = c .before .before in
+      let record-at = grouped .before .before .before .before in
+      let told = record-at .before .before in
+      let looked = told .before .before in
+      let start = opened (looked-found looked) in
       let place : start .args .at .before + 1 - 1 ≡ start .args .at .before = omega arith in (
         (λ ds tree st res v.
-            ground-explored (start .args .at .before) (start .args .store .now) _ (start .args .grouping .now) (visit-room (roomy found)) (condition .0 .0 .0) tree
-            (ground-tree v (visit-node found ds (st, res) ∙ ap nodeAs (condition .1)))
-            (record-at .write2 .ensures ∙ ap (λ (k : ℕ). sets (start .args .store .now) (recordLength * k) (encode (groundRecord (condition .0 .0 .0)))) place)),
-        (visit-untouched found, located found .locate .ensures .1 .1 .1),
+            met-explored (start .args .at .before) (start .args .store .now) _ (start .args .grouping .now) (visit-room (roomy (looked-found looked))) ds _ tree
+            (met-tree v (visit-looked looked ds (st, res) ∙ ap untakenAs (told .enum-told2 .given .1)))
+            (record-at .write2 .ensures ∙ ap (λ (k : ℕ). sets (start .args .store .now) (recordLength * k) (encode metRecord)) place)
+            (grouped .write-grouping .ensures ∙ ap (λ (lots : List ℕ). take (length (start .args .grouping .now)) (drop 1 lots)) (st .represents .lots))),
+        (untouched₁ looked, located (looked-found looked) .locate .ensures .1 .1 .1),
       )
 
-  -- of a clique,
+  -- a clique,
+  visit-enum-told-3 : visit-lts.Need-enum-told-3 (visit-claims t) (visit-at t) visit.Post
+  visit-enum-told-3 c = search needs
+
+  visit-add-t50 : visit-lts.Need-add-t50 (visit-claims t) (visit-at t) visit.Post
+  visit-add-t50 c = search needs
+
+  visit-write-requires-3 : visit-lts.Need-write-requires-3 (visit-claims t) (visit-at t) visit.Post
+  visit-write-requires-3 c κs =
+      let d = roomy (looked-found (c .before .before .before)) in
+      let start = room-opened d in
+      (has-place (start .args .store .now) (start .args .at .before) (visit-room d) (start .args .store .now) refl, tt)
+
+  visit-add-t50-2 : visit-lts.Need-add-t50-2 (visit-claims t) (visit-at t) visit.Post
+  visit-add-t50-2 c = search needs
+
   visit-same-length-9 : visit-lts.Need-same-length-9 (visit-claims t) (visit-at t) visit.Post
   visit-same-length-9 c = search needs
 
@@ -868,19 +904,53 @@ module _ (t : ℕ) where
   visit-returns-4 c =
       let record-at = c .before .before in
       let told = record-at .before .before in
-      let found = told .before .before in
-      let start = opened found in
+      let looked = told .before .before in
+      let start = opened (looked-found looked) in
       let place : start .args .at .before + 1 - 1 ≡ start .args .at .before = omega arith in (
         (λ ds tree st res v.
-            clique-explored (start .args .at .before) (start .args .store .now) _ (start .args .grouping .now) (visit-room (roomy found)) tree
-            (clique-tree v (visit-node found ds (st, res) ∙ ap nodeAs (told .enum-told2 .given .1)))
+            clique-explored (start .args .at .before) (start .args .store .now) _ (start .args .grouping .now) (visit-room (roomy (looked-found looked))) tree
+            (clique-tree v (visit-looked looked ds (st, res) ∙ ap untakenAs (told .enum-told3 .given .1)))
             (record-at .write3 .ensures ∙ ap (λ (k : ℕ). sets (start .args .store .now) (recordLength * k) (encode cliqueRecord)) place)),
-        (visit-untouched found, located found .locate .ensures .1 .1 .1),
+        (untouched₁ looked, located (looked-found looked) .locate .ensures .1 .1 .1),
       )
 
-  -- and of a split.
+  -- or a split on a pair of classes.
+  visit-enum-known-untaken : visit-lts.Need-enum-known-untaken (visit-claims t) (visit-at t) visit.Post
+  visit-enum-known-untaken c = search needs
+
+  -- Either split is visited.
+  visit-branches-requires : visit-lts.Need-branches-requires (visit-claims t) (visit-at t) visit.Post
+  visit-branches-requires c κs =
+      let at = c .before .before .before .before in
+      let start = opened (at .before) in
+      let path = start .pre .1 .1 in
+      let known = parts at in (
+        omega (arith, start .pre .0, below-same (path .standing) (at .match .pairs) (known .sized) (known .untouched)),
+        (
+          start .pre .1 .0,
+          visit-room (roomy (at .before)),
+          record {
+            settled = located (at .before) .locate .ensures .1 .1 .0;
+            path = path .path;
+            standing = below-standing (path .standing) (at .match .pairs) (known .sized) (known .untouched);
+            splits = known .splits (path .path) (path .standing, path .resumes);
+            leaves = known .leaves (path .path) (path .standing, path .resumes);
+            levels = path .levels;
+          },
+        ),
+      )
+
+  -- Where it is over, and the place before it.
+  abbrev Visited-split : Type 0
+  Visited-split = visit-lts.After-branches (visit-claims t) (visit-at t) visit.Post
+
+  abbrev came-from : Visited-split → Splitting
+  came-from c = c .before .before .before .before .before
+
   visit-same-length-12 : visit-lts.Need-same-length-12 (visit-claims t) (visit-at t) visit.Post
-  visit-same-length-12 c = search needs
+  visit-same-length-12 c =
+      let ended = c .before .before .before .before .before .before .before .before in
+      ended .branches .kept .1 .1 .1 .1 .1 .0 ∙ parts (came-from ended) .sized
 
   visit-same-length-13 : visit-lts.Need-same-length-13 (visit-claims t) (visit-at t) visit.Post
   visit-same-length-13 c = search needs
@@ -891,18 +961,16 @@ module _ (t : ℕ) where
   visit-same-length-15 : visit-lts.Need-same-length-15 (visit-claims t) (visit-at t) visit.Post
   visit-same-length-15 c =
       let ended = c .before .before .before .before .before .before .before .before in
-      let found = ended .before .before .before .before .before .before .before .before in
-      ended .branches .kept .1 .1 .1 .1 .1 .1 .1 .1 .0 ∙ located found .locate .kept .1 .1 .1 .1 .0
+      ended .branches .kept .1 .1 .1 .1 .1 .1 .1 .1 .0 ∙ located (came-from ended .before) .locate .kept .1 .1 .1 .1 .0
 
   visit-returns-5 : visit-lts.Need-returns-5 (visit-claims t) (visit-at t) visit.Post
   visit-returns-5 c =
       let ended = c .before .before .before .before .before .before .before .before in
-      let split-found = ended .before .before .before .before .before .before in
-      let found = split-found .before .before in
-      let kind = split-found .node2 .given .1 in (
+      let at = came-from ended in
+      let known = parts at in (
         (λ ds tree st res v.
-            ended .branches .ensures .0 ds tree (visit-standing found ds st) (visit-node found ds (st, res) ∙ ap nodeAs kind) (visit-leaves found ds (st, res) _ kind) v),
-        ((λ i h. ended .branches .ensures .1 .0 i h ∙ visit-untouched found i h), later-through _ _ _ _ (located found .locate .ensures .1 .1 .1) (ended .branches .ensures .1 .1)),
+            ended .branches .ensures .0 ds tree (below-standing st (at .match .pairs) (known .sized) (known .untouched)) (known .splits ds (st, res)) (known .leaves ds (st, res)) v),
+        ((λ i h. ended .branches .ensures .1 .0 i h ∙ known .untouched i h), later-through _ _ _ _ (located (at .before) .locate .ensures .1 .1 .1) (ended .branches .ensures .1 .1)),
       )
 
 pub +branches+visit-spec : {M : Type 1} → statement M
@@ -971,10 +1039,10 @@ pub +branches+visit-spec : {M : Type 1} → statement M
       locate-reads.Learnt,
       node-at-reads.Asked,
       node-at-reads.Learnt,
-      limited-reads.Asked,
-      limited-reads.Learnt,
       write-reads.Asked,
       write-reads.Learnt,
+      none-taken-reads.Asked,
+      none-taken-reads.Learnt,
       write-grouping-reads.Asked,
       write-grouping-reads.Learnt,
       branches-below t,
@@ -988,36 +1056,38 @@ pub +branches+visit-spec : {M : Type 1} → statement M
     (visit-returns t)
     (visit-locate-requires t)
     (visit-node-at-requires t)
-    (visit-cast-lots t)
-    (visit-limited-requires t)
-    (visit-enum-told t)
+    (visit-enum-known-found t)
     (visit-add-t32 t)
     (visit-write-requires t)
-    (visit-write-grouping-requires t)
     (visit-add-t32-2 t)
-    (visit-enum-known-node t)
-    (visit-add-t40 t)
-    (visit-write-requires-2 t)
-    (visit-add-t40-2 t)
-    (visit-enum-told-2 t)
-    (visit-add-t46 t)
-    (visit-write-requires-3 t)
-    (visit-add-t46-2 t)
-    (visit-enum-known-node-2 t)
-    (visit-branches-requires t)
     (visit-same-length-2 t)
     (visit-same-length-3 t)
     (visit-same-length-4 t)
-    (visit-same-length-5 t)
     (visit-returns-2 t)
+    (visit-enum-known-found-2 t)
+    (visit-enum-told t)
+    (visit-cast-lots t)
+    (visit-none-taken-requires t)
+    (visit-enum-told-2 t)
+    (visit-add-t42 t)
+    (visit-write-requires-2 t)
+    (visit-write-grouping-requires t)
+    (visit-add-t42-2 t)
+    (visit-same-length-5 t)
     (visit-same-length-6 t)
     (visit-same-length-7 t)
     (visit-same-length-8 t)
     (visit-returns-3 t)
+    (visit-enum-told-3 t)
+    (visit-add-t50 t)
+    (visit-write-requires-3 t)
+    (visit-add-t50-2 t)
     (visit-same-length-9 t)
     (visit-same-length-10 t)
     (visit-same-length-11 t)
     (visit-returns-4 t)
+    (visit-enum-known-untaken t)
+    (visit-branches-requires t)
     (visit-same-length-12 t)
     (visit-same-length-13 t)
     (visit-same-length-14 t)
