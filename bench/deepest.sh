@@ -19,6 +19,6 @@ as -o "$copy/reader.o" - <<'END'
     ret
 END
 objcopy -O binary --only-section=.text "$copy/reader.o" "$copy/reader"
-(cd "$copy" && ar x liblihumbay.a lihumbay.o && objcopy --remove-relocations='.text.sheet::read' --update-section '.text.sheet::read=reader' lihumbay.o && ar r liblihumbay.a lihumbay.o)
+(cd "$copy" && ar x liblihumbay.a lihumbay.o && objcopy --remove-relocations='.text.reader::read' --update-section '.text.reader::read=reader' lihumbay.o && ar r liblihumbay.a lihumbay.o)
 LIHUMBAY_ARCHIVE="$PWD/$copy" cargo build --release -p measure --target-dir "$copy/cargo"
 "$copy/cargo/release/measure" deepest

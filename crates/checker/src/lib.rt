@@ -334,7 +334,7 @@ pub fn check(sheet: &[u8], list: &[u8]) -> CheckAnswer
     ensures passed { λ r. ⌜ PassedExactly r (now (sheet .entry)) (now (list .entry)) ⌝ }
     ensures meaning { λ r. ⌜ PassedMeans r (now (sheet .entry)) ⌝ }
 {
-    let reading = sheet::read(sheet);
+    let reading = reader::read(sheet);
     match reading {
         Reading::Refused { check, place } => CheckAnswer::Refused { check, place },
         Reading::Accepted {
@@ -365,7 +365,7 @@ pub fn check_limited(sheet: &[u8], limit: u32, list: &[u8]) -> CheckAnswer
     ensures passed { λ r. ⌜ PassedExactlyUnder (upTo limit) r (now (sheet .entry)) (now (list .entry)) ⌝ }
     ensures meaning { λ r. ⌜ PassedMeansUnder (upTo limit) r (now (sheet .entry)) ⌝ }
 {
-    let reading = sheet::read(sheet);
+    let reading = reader::read(sheet);
     match reading {
         Reading::Refused { check, place } => CheckAnswer::Refused { check, place },
         Reading::Accepted {

@@ -4,10 +4,10 @@ ghost use mathlib.Core.Bool.{cond, _&&_, _||_};
 ghost use mathlib.Core.List.{[]};
 ghost use Prim.Native.Nat.{_+_, _*_, _≤_, min};
 ghost use lib.Dec.{eqb};
-ghost use lib.ListN.{length};
+ghost use lib.ListN.{length, take, drop};
 ghost use Rattle.sheet.specs.Format.{mostLots};
 ghost use Rattle.equality.specs.Node.{merged, classOf, classes, marked};
-ghost use Rattle.classes.specs.Maps.{entries};
+ghost use Rattle.classes.specs.Maps.{entries, ClassesWithin};
 ghost use Rattle.classes.specs.Pairs.{setApart, withPair, PairsWithin};
 use sheet::Lot;
 
@@ -158,5 +158,19 @@ impl Classes {
             classes: self,
             marked: false,
         }
+    }
+}
+
+// Writes the smallest lot of each lot's class, of lots 1 on.
+pub fn write_grouping(grouping: &mut [u8], map: Classes)
+    requires { ⌜ (length (now grouping) ≤ mostLots) × ClassesWithin (map .lots) ⌝ }
+    ensures { λ _. ⌜ now (grouping .exit) ≡ take (length (now (grouping .entry))) (drop 1 (map .lots)) ⌝ }
+{
+    let mut i: usize = 0;
+    while i < grouping.len() {
+        let lot = Lot((i + 1) as u16);
+        let smallest = map.smallest_lot(lot);
+        grouping[i] = smallest.lot.0 as u8;
+        i += 1;
     }
 }

@@ -107,7 +107,7 @@ pub fn evaluate(sheet: &[u8], grouping: &[u8]) -> Evaluation
     ensures answer { λ r. ⌜ evaluationAnswer r ≡ evaluateAnswer (now (sheet .entry)) (now (grouping .entry)) ⌝ }
     ensures meaning { λ r. ⌜ Evaluated (evaluationAnswer r) (now (sheet .entry)) (now (grouping .entry)) ⌝ }
 {
-    let reading = sheet::read(sheet);
+    let reading = reader::read(sheet);
     match reading {
         Reading::Refused { check, place } => Evaluation::Refused { check, place },
         Reading::Accepted {

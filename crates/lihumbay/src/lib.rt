@@ -141,7 +141,7 @@ pub extern "C" fn lihumbay_read(sheet: &[u8]) -> Numbers
     ensures answer { λ r. ⌜ r ≡ numbersOf (readAnswer (now (sheet .entry))) ⌝ }
     ensures accepted { λ r. ⌜ ZeroExactly r (now (sheet .entry)) ⌝ }
 {
-    of_reading(sheet::read(sheet))
+    of_reading(reader::read(sheet))
 }
 
 // The evaluator: 0 where all conditions are met, else the lowest that isn't.

@@ -81,7 +81,7 @@ fn merge_second(first: &[u8], lots: u16, m: u16, second: &[u8], out: &mut [u8]) 
     ensures sheet { λ r. ⌜ sheetRefused r ≡ whichRefused (now (first .entry)) (now (second .entry)) ⌝ }
     ensures output { λ r. ⌜ now (out .exit) ≡ mergeOut hasTerms (now (first .entry)) (now (second .entry)) (now (out .entry)) ⌝ }
 {
-    let reading = sheet::read(second);
+    let reading = reader::read(second);
     match reading {
         Reading::Refused { check, place } => MergeAnswer::SecondRefused { check, place },
         Reading::Accepted {
@@ -107,7 +107,7 @@ pub fn merge(first: &[u8], second: &[u8], out: &mut [u8]) -> MergeAnswer
     ensures meets { λ r. ⌜ OfWritten (λ w. MeetsBoth w (now (first .entry)) (now (second .entry))) (mergedAnswer r) (now (out .exit)) ⌝ }
     ensures places { λ r. ⌜ OfWritten (λ w. Placed w (now (first .entry)) (now (second .entry))) (mergedAnswer r) (now (out .exit)) ⌝ }
 {
-    let reading = sheet::read(first);
+    let reading = reader::read(first);
     match reading {
         Reading::Refused { check, place } => MergeAnswer::FirstRefused { check, place },
         Reading::Accepted {

@@ -15,9 +15,10 @@ use Rattle.limit.proofs.Resumes.{under-takes, pair-resumes}
 use Rattle.node.specs.declared.Split as pair
 use Rattle.node.specs.declared.Untaken.{Untaken}
 use Rattle.node.specs.declared.Untaken.the-variants.{Met, Split, Clique}
-use Rattle.node.specs.Place.{untakenAs, ResumesWithin, ResumesPair, PairSplit, SplitLeaves, PairLeaves}
+use Rattle.scan.specs.Place.{ResumesWithin, ResumesPair}
+use Rattle.node.specs.Found.{untakenAs, PairSplit, SplitLeaves, PairLeaves}
 use Rattle.node.proofs.Resuming.{none-met}
-use Rattle.node.proofs.Settling.{taken-number}
+use Rattle.scan.proofs.Settling.{taken-number}
 
 -- ---- a condition is taken
 

@@ -1,5 +1,3 @@
-mod Scanning
-pub mod Settling
 mod Opening
 mod Resuming
 mod Pairing

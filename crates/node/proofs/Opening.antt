@@ -24,7 +24,7 @@ use Rattle.classes.specs.Pairs.{setApart}
 use Rattle.classes.proofs.Maps.{class-map, class-within}
 use Rattle.marks.specs.Marks.{markAt, Marks}
 use Rattle.marks.proofs.Marks.{marks-at}
-use Rattle.node.specs.Place.{PassesTo}
+use Rattle.scan.specs.Place.{PassesTo}
 
 -- ---- parts of a condition
 

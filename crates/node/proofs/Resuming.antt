@@ -1,30 +1,22 @@
 -- Going on within the taken condition: what the terms from a record on decide, and where the apart branch of a split goes on.
 use Prim.Native.Nat.{ℕ}
-use mathlib.Core.List.{List, [], _∷_, _++_, append-assoc}
-use mathlib.Core.Path.{_≡_, refl, sym, ap, _∙_}
+use mathlib.Core.List.{List, _∷_, _++_, append-assoc}
+use mathlib.Core.Path.{_≡_, sym, ap, _∙_}
 use Rattle.sheet.specs.Format.{headAt}
-use Rattle.sheet.specs.Inner.{OnChain}
 use Rattle.sheet.specs.Conditions.{Term, apart, termsFrom, conditionAt, conditions}
-use Rattle.equality.specs.Node.{Decisions, noCondition, takes, taken, met, groundOrSplit, nodeOf, node}
+use Rattle.equality.specs.Node.{Decisions, noCondition, taken, met, groundOrSplit, nodeOf, node}
 use Rattle.equality.proofs.Node.{taken-apart, passed-by}
 use Rattle.equality.proofs.Rule.{taken-at, no-open}
-use Rattle.node.specs.Place.{PassesTo, ResumesWithin}
+use Rattle.scan.specs.Place.{PassesTo, ResumesWithin}
 use Rattle.buffers.proofs.Lists.{all-both}
 use Rattle.node.proofs.Opening.{NonePasses, rest-passes-none, NoneOpen, none-ground, none-later}
 
 -- ---- after the scan
 
--- Where no condition is taken the node is met;
+-- Where no condition is taken the node is met.
 pub none-met : (ds : Decisions) (s : List ℕ) → taken ds 1 (conditions s) ≡ noCondition → met ≡ node ds (conditions s)
 unfolding node
 none-met ds s e = rw e
-
--- the condition taken is gone on within from its head on.
-pub head-resumes : (ds : Decisions) (s : List ℕ) (c head : ℕ) → head ≡ headAt s c → OnChain s head → taken ds 1 (conditions s) ≡ takes c (conditionAt s c)
-    → ResumesWithin s c head ds
-unfolding groundOrSplit
-head-resumes ds s c head e h t =
-    record { condition = t; passes = record { on = h; passed = []; place = ap (termsFrom s) (sym e); closed = λ d. refl } }
 
 -- ---- from a record on
 

@@ -77,7 +77,7 @@ fn changes(text: &[u8], at: usize, bytes: &mut [u8; plain::ROOM], m: u16, len: u
 // What the reader answers to the first bytes.
 fn answer(bytes: &[u8], len: usize) {
     if len <= bytes.len() {
-        say(sheet::read(&bytes[..len]));
+        say(reader::read(&bytes[..len]));
     }
 }
 

@@ -56,7 +56,7 @@ pub fn repack(sheet: &[u8], out: &mut [u8]) -> WriteAnswer
     ensures again { λ r. ⌜ OfWritten (λ w. repacked w ≡ w) (writtenAnswer r) (now (out .exit)) ⌝ }
     ensures alike { λ r. ⌜ OfWritten (λ w. ServedAlike w (now (sheet .entry))) (writtenAnswer r) (now (out .exit)) ⌝ }
 {
-    let reading = sheet::read(sheet);
+    let reading = reader::read(sheet);
     match reading {
         Reading::Refused { check, place } => WriteAnswer::Refused { check, place },
         Reading::Accepted {

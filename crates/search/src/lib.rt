@@ -130,7 +130,7 @@ pub fn search(sheet: &[u8], grouping: &mut [u8], store: &mut [u8]) -> SearchAnsw
     ensures refutes { λ r. ⌜ CannotRefutes (searchAnswer r) (now (sheet .entry)) (now (store .exit)) ⌝ }
     ensures count { λ r. ⌜ CountBounded (searchAnswer r) (now (sheet .entry)) ⌝ }
 {
-    let reading = sheet::read(sheet);
+    let reading = reader::read(sheet);
     match reading {
         Reading::Refused { check, place } => SearchAnswer::Refused { check, place },
         Reading::Accepted {
@@ -171,7 +171,7 @@ pub fn search_limited(
     ensures whichever { λ r. ⌜ CannotWhicheverUnder (upTo limit) (searchAnswer r) (now (sheet .entry)) ⌝ }
     ensures refutes { λ r. ⌜ CannotRefutesUnder (upTo limit) (searchAnswer r) (now (sheet .entry)) (now (store .exit)) ⌝ }
 {
-    let reading = sheet::read(sheet);
+    let reading = reader::read(sheet);
     match reading {
         Reading::Refused { check, place } => SearchAnswer::Refused { check, place },
         Reading::Accepted {

@@ -16,6 +16,3 @@ pub mod Records
 pub mod Conditions
 pub mod Scanning
 pub mod Accepting
-mod Tests
-mod Flags
-mod WalkLoops

@@ -1,13 +1,10 @@
-// Condition sheets: the format's words, and the reader.
+// Condition sheets: the format's words, and the reader of a chain.
 pub mod format; // format.rt: numbers, heads and records in a sheet's bytes
 pub mod chain; // chain.rt: the reader of a chain
-mod checks; // checks.rt: checks 1 to 5 and 7
-mod once; // once.rt: checks 17 and 6, and with them check 7
 
 ghost use mathlib.Core.Path.{_≡_};
 ghost use Rattle.sheet.specs.Format.{lowestLot};
-ghost use Rattle.sheet.specs.Checks.{lotInRange, sheetVerdict};
-ghost use Rattle.sheet.specs.Answers.{readAnswer, readingAnswer};
+ghost use Rattle.sheet.specs.Checks.{lotInRange};
 
 // Lot numbers, condition numbers and record numbers each count from 1 on their own; none is ever used for another. Lot 0 may be named too; a sheet's number of
 // lots doesn't count it.
@@ -64,43 +61,4 @@ pub fn in_lots(n: u16, lot: Lot) -> bool
     ensures { λ r. ⌜ r ≡ lotInRange lowestLot n (lot .0) ⌝ }
 {
     lot.0 <= n
-}
-
-// The sheet reader: the header's counts, or the first check that fails, for any bytes at all.
-pub fn read(sheet: &[u8]) -> Reading
-    ensures { λ r. ⌜ readingAnswer r ≡ readAnswer (now (sheet .entry)) ⌝ }
-{
-    let v = first_refusal(sheet);
-    match v {
-        Verdict::Refuses(check, place) => Reading::Refused { check, place },
-        Verdict::Passes => {
-            let h = format::header_of(sheet);
-            Reading::Accepted {
-                lots: h.lots,
-                conditions: h.conditions,
-                records: h.records,
-            }
-        }
-    }
-}
-
-// The first of checks 1 to 7 and 17 that refuses. Heads are read once by check 4 and once by the walk, records once by check 5 and once by the walk, or, where
-// that doesn't reach them, by check 7.
-fn first_refusal(sheet: &[u8]) -> Verdict
-    ensures { λ v. ⌜ v ≡ sheetVerdict (now (sheet .entry)) ⌝ }
-{
-    let counted = checks::header(sheet);
-    if let Verdict::Refuses(_, _) = counted {
-        return counted;
-    }
-    let h = format::header_of(sheet);
-    let headed = checks::heads(sheet, h);
-    if let Verdict::Refuses(_, _) = headed {
-        return headed;
-    }
-    let formed = checks::records(sheet, h);
-    if let Verdict::Refuses(_, _) = formed {
-        return formed;
-    }
-    once::check(sheet, h)
 }

@@ -27,12 +27,13 @@ use Rattle.classes.specs.Pairs.{setApart, withPair, PairsWithin, Untouched}
 use Rattle.classes.proofs.Path.{pair-leaves, new-represents, join-represents, apart-represents, below-represents, represented-within, smallest-says, marked-says}
 use Rattle.classes.proofs.Maps.{class-map}
 use Rattle.marks.specs.Marks.{tableLength}
-use Rattle.node.specs.declared.Place.{Place}
-use Rattle.node.specs.declared.Place.the-variants.{Scan, Within, Nowhere, After}
+use Rattle.scan.specs.declared.Place.{Place}
+use Rattle.scan.specs.declared.Place.the-variants.{Scan, Within, Nowhere, After}
 use Rattle.node.specs.declared.Split.{Split}
-use Rattle.node.specs.Place.{Markable, ResumesPair, Resumes, PlaceWithin, Rises, SplitLeaves}
-use Rattle.node.specs.Settled.{Settled, Later}
-use Rattle.node.proofs.Settling.{taken-number, joined-settled, same-settled, same-later, later-none, later-through}
+use Rattle.scan.specs.Place.{ResumesPair, Resumes, PlaceWithin, Rises}
+use Rattle.node.specs.Found.{Markable, SplitLeaves}
+use Rattle.scan.specs.Settled.{Settled, Later}
+use Rattle.scan.proofs.Settling.{taken-number, joined-settled, same-settled, same-later, later-none, later-through}
 use Rattle.visit.specs.Limits.{pairsRoom}
 use Rattle.visit.specs.Visited.{ruleOf, openLeft, Standing, LevelWithin}
 use Rattle.classes.specs.Maps.{ClassesWithin}

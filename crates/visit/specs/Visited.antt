@@ -19,11 +19,12 @@ use Rattle.limit.specs.Scan.{limitOf}
 use Rattle.classes.specs.declared.Classes.{Classes}
 use Rattle.classes.specs.Pairs.{Represents}
 use Rattle.marks.specs.Marks.{tableLength}
-use Rattle.node.specs.declared.Place.{Place}
+use Rattle.scan.specs.declared.Place.{Place}
 use Rattle.node.specs.declared.Split.{Split}
 use Rattle.sheet.specs.Inner.{HasConditions}
-use Rattle.node.specs.Settled.{Settled}
-use Rattle.node.specs.Place.{Resumes, SplitLeaves}
+use Rattle.scan.specs.Settled.{Settled}
+use Rattle.scan.specs.Place.{Resumes}
+use Rattle.node.specs.Found.{SplitLeaves}
 use Rattle.outcome.specs.Nodes.{records}
 use Rattle.store.specs.Records.{encodeAll, recordLength, capacity}
 use Rattle.visit.specs.Limits.{pairsRoom, mostLevel}

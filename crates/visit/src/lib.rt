@@ -1,24 +1,21 @@
 // The visits of a search: a node and all under it, a split and its branches, from no decisions on.
 ghost use mathlib.Core.Path.{_≡_};
-ghost use Prim.Native.Nat.{_+_, _≤_, _<_};
-ghost use lib.ListN.{length, take, drop};
-ghost use Rattle.sheet.specs.Format.{mostLots};
+ghost use Prim.Native.Nat.{_+_, _<_};
+ghost use lib.ListN.{length};
 ghost use Rattle.sheet.specs.Conditions.{conditions};
 ghost use Rattle.limit.specs.Scan.{limitOf};
 ghost use Rattle.marks.specs.Marks.{tableLength};
-ghost use Rattle.node.specs.Settled.{Later};
+ghost use Rattle.scan.specs.Settled.{Later};
 ghost use Rattle.store.specs.Records.{capacity};
 ghost use Rattle.outcome.specs.Limited.{treeOf};
 ghost use Rattle.visit.specs.Limits.{pairsRoom};
 ghost use Rattle.visit.specs.Visited.{Searchable, Visitable, Splittable, Explored, VisitExplores, SplitExplores};
-ghost use Rattle.classes.specs.Maps.{ClassesWithin};
 ghost use Rattle.classes.specs.Pairs.{Untouched};
 use classes::Classes;
 use node::Node;
-use node::Place;
 use node::Split;
 use node::Untaken;
-use sheet::Lot;
+use scan::Place;
 use store::NodeNumber;
 use store::NodeRecord;
 
@@ -70,20 +67,6 @@ pub enum Visited {
     Full,
 }
 
-// Writes the smallest lot of each lot's class.
-fn write_grouping(grouping: &mut [u8], map: Classes)
-    requires { ⌜ (length (now grouping) ≤ mostLots) × ClassesWithin (map .lots) ⌝ }
-    ensures { λ _. ⌜ now (grouping .exit) ≡ take (length (now (grouping .entry))) (drop 1 (map .lots)) ⌝ }
-{
-    let mut i: usize = 0;
-    while i < grouping.len() {
-        let lot = Lot((i + 1) as u16);
-        let smallest = map.smallest_lot(lot);
-        grouping[i] = smallest.lot.0 as u8;
-        i += 1;
-    }
-}
-
 // The node of a path, and all under it: its record is written, and a split's branches are visited. `count` is how many pairs the path sets apart, behind which
 // a node may mark its table; `levels` are the settled levels, of conditions that the path settles.
 fn visit(
@@ -105,7 +88,7 @@ fn visit(
     if store::capacity_of(store) <= (before as usize) {
         return Visited::Full;
     }
-    let place = node::locate(sheet, at.m, map, from, levels, at.level);
+    let place = scan::locate(sheet, at.m, map, from, levels, at.level);
     let found = node::node_at(sheet, at.m, map, pairs, count, place);
     let on = match found {
         Node::Ground(c) => {
@@ -119,7 +102,7 @@ fn visit(
             match untaken {
                 Untaken::Met => {
                     store::write(store, NodeNumber(before + 1), NodeRecord::Met);
-                    write_grouping(grouping, map);
+                    classes::write_grouping(grouping, map);
                     return Visited::Met(before + 1);
                 }
                 Untaken::Clique => {
@@ -158,7 +141,7 @@ fn branches(
     let same = map.join(a, b);
     let up = at.in_same();
     let c = on.condition;
-    node::settle(levels, c, up.level);
+    scan::settle(levels, c, up.level);
     let from = Place::Scan;
     let under_same = visit(sheet, same, from, count, up, pairs, grouping, store, levels);
     let Visited::Cannot(n) = under_same else {
@@ -169,7 +152,7 @@ fn branches(
     }
     store::set_next(store, here, NodeNumber(n + 1));
     classes::set_apart(pairs, count, a, b);
-    node::clear_above(levels, at.level);
+    scan::clear_above(levels, at.level);
     let at = at.in_apart(n);
     let from = on.apart_place();
     let count = count + 1;

@@ -21,7 +21,7 @@ use Rattle.classes.proofs.Path.{marked-says}
 use Rattle.marks.specs.Marks.{walkLimit}
 use Rattle.marks.proofs.Bytes.{outside-none}
 use Rattle.equality.proofs.Passing.{Passing, passing-start, passing-next}
-use Rattle.node.specs.Place.{PassesTo, ResumesWithin}
+use Rattle.scan.specs.Place.{PassesTo, ResumesWithin}
 use Rattle.node.proofs.Opening.{marksOf, openBy, sign-same, sign-apart, passed-resumes, none-open, open-here, open-leaves}
 use Rattle.node.proofs.Resuming.{rest-decides, rest-passes, later-resumes, apart-resumes}
 use Rattle.node.proofs.first_open.Statement.{statement}

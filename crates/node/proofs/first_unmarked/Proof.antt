@@ -15,7 +15,7 @@ use Rattle.sheet.specs.Conditions.{same, apart, termOf, termAt, recordsFrom}
 use Rattle.sheet.proofs.Accepted.{sound, has-record}
 use Rattle.sheet.proofs.ChainEnds.{on-sound, rest-shorter}
 use Rattle.equality.proofs.Passing.{Passing, passing-start, passing-through, passing-next}
-use Rattle.node.specs.Place.{PassesTo}
+use Rattle.scan.specs.Place.{PassesTo}
 use Rattle.node.proofs.Opening.{tableOf, table-says, openBy, sign-same, sign-apart, none-open, open-here, open-leaves}
 use Rattle.node.proofs.Resuming.{rest-decides, rest-passes, apart-resumes}
 use Rattle.node.proofs.first_unmarked.Statement.{statement}

@@ -6,8 +6,8 @@ use mathlib.Core.Path.{_≡_, subst}
 use Rattle.equality.specs.Node.{Decisions}
 use Rattle.limit.specs.Meaning.{Limit}
 use Rattle.marks.proofs.Bytes.{outside-none}
-use Rattle.node.specs.declared.Place.{Place}
-use Rattle.node.specs.Place.{Stands, PlaceWithin}
+use Rattle.scan.specs.declared.Place.{Place}
+use Rattle.scan.specs.Place.{Stands, PlaceWithin}
 use Rattle.node.proofs.Leaving.{pair-none}
 use Rattle.node.proofs.Resuming.{none-met}
 use Rattle.node.proofs.node_at.Statement.{statement}

@@ -13,8 +13,9 @@ use Rattle.limit.specs.Scan.{limitOf}
 use Rattle.limit.proofs.Resumes.{scan-start}
 use Rattle.classes.specs.Pairs.{Represents}
 use Rattle.marks.proofs.Bytes.{outside-none}
-use Rattle.node.specs.declared.Place.{Place}
-use Rattle.node.specs.Place.{untakenAs, Stands, Rises, PairLeaves}
+use Rattle.scan.specs.declared.Place.{Place}
+use Rattle.scan.specs.Place.{Stands, Rises}
+use Rattle.node.specs.Found.{untakenAs, PairLeaves}
 use Rattle.node.proofs.Leaving.{limited-node, no-limit-met, resumes-limited}
 use Rattle.node.proofs.none_taken.Statement.{statement}
 use Rattle.node.proofs.none_taken.Tie as tie

@@ -26,18 +26,19 @@ use Rattle.limit.specs.Rule.{noneTaken}
 use Rattle.limit.specs.Scan.{limitOf}
 use Rattle.limit.proofs.Resumes.{under-none}
 use Rattle.store.specs.Records.{recordLength, splitRecord, groundRecord, metRecord, cliqueRecord, encode, capacity}
-use Rattle.classes.specs.Pairs.{Represents, Untouched}
+use Rattle.classes.specs.Pairs.{Untouched}
 use Rattle.marks.proofs.Marks.{outside-front}
 use Rattle.node.specs.declared.Node as declared
 use Rattle.node.specs.declared.Node.the-variants as terms
 use Rattle.node.specs.declared.Untaken as untaken
 use Rattle.node.specs.declared.Split.{Split}
-use Rattle.node.specs.declared.Place.{Place}
-use Rattle.node.specs.declared.Place.the-variants.{Scan}
-use Rattle.node.specs.Place.{nodeAs, untakenAs, Resumes, Stands, TermLeaves, SplitLeaves, PairLeaves}
-use Rattle.node.specs.Settled.{Later}
+use Rattle.scan.specs.declared.Place.{Place}
+use Rattle.scan.specs.declared.Place.the-variants.{Scan}
+use Rattle.scan.specs.Place.{Resumes, Stands}
+use Rattle.node.specs.Found.{nodeAs, untakenAs, TermLeaves, SplitLeaves, PairLeaves}
+use Rattle.scan.specs.Settled.{Later}
 use Rattle.node.proofs.Leaving.{ground-under, split-under, term-leaves}
-use Rattle.node.proofs.Settling.{later-none, later-through, later-above, restored-settled, restored-later}
+use Rattle.scan.proofs.Settling.{later-none, later-through, later-above, restored-settled, restored-later}
 use Rattle.outcome.proofs.Fitting.{node-count}
 use Rattle.visit.specs.declared.Visited.{Visited}
 use Rattle.visit.specs.declared.Visited.the-variants.{Cannot}
@@ -57,15 +58,15 @@ use Rattle.visit.proofs.visit.Kinds as visit-kinds
 use Rattle.visit.proofs.+branches+visit.Lts-visit as visit-lts
 use Rattle.classes.proofs.Classes.join.Reads as join-reads
 use Rattle.classes.proofs.set_apart.Reads as set-apart-reads
-use Rattle.node.proofs.clear_above.Reads as clear-above-reads
-use Rattle.node.proofs.locate.Reads as locate-reads
+use Rattle.scan.proofs.clear_above.Reads as clear-above-reads
+use Rattle.scan.proofs.locate.Reads as locate-reads
 use Rattle.node.proofs.node_at.Reads as node-at-reads
 use Rattle.node.proofs.none_taken.Reads as none-taken-reads
 use Rattle.node.proofs.Split.apart_place.Reads as apart-place-reads
-use Rattle.node.proofs.settle.Reads as settle-reads
+use Rattle.scan.proofs.settle.Reads as settle-reads
 use Rattle.visit.proofs.Stage.in_apart.Reads as in-apart-reads
 use Rattle.visit.proofs.Stage.in_same.Reads as in-same-reads
-use Rattle.visit.proofs.write_grouping.Reads as write-grouping-reads
+use Rattle.classes.proofs.write_grouping.Reads as write-grouping-reads
 use Rattle.store.proofs.capacity_of.Reads as capacity-of-reads
 use Rattle.store.proofs.set_next.Reads as set-next-reads
 use Rattle.store.proofs.write.Reads as write-reads

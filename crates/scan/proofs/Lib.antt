@@ -1,0 +1,3 @@
+mod Scanning
+pub mod Settling
+mod Resuming
