@@ -41,6 +41,7 @@ mod z3;
 use std::process::ExitCode;
 
 const USAGE: &str = "measure all [quick]       compare, time, count instructions, run z3 and the stack test, write data, plots and tables
+measure again SERVICE..   the same for some services, and the stack; the other services' data stay
 measure sizes             count the instructions of a node against the sizes of a sheet, and write its table
 measure places            count the instructions of an evaluation against the place of the first true term, and write its table
 measure z3                run z3 beside the product's times that are there, and write its table
@@ -56,6 +57,7 @@ fn main() -> ExitCode {
     match words.iter().map(String::as_str).collect::<Vec<_>>()[..] {
         ["all"] => report::measure(rounds::Plan { rounds: 9, batch: 0.1 }),
         ["all", "quick"] => report::measure(rounds::Plan { rounds: 3, batch: 0.02 }),
+        ["again", ref services @ ..] => report::measure_again(rounds::Plan { rounds: 9, batch: 0.1 }, services),
         ["sizes"] => report::measure_sizes(),
         ["places"] => report::measure_places(),
         ["z3"] => report::measure_beside_z3(),

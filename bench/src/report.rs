@@ -166,6 +166,18 @@ pub fn measure(plan: Plan) {
     write();
 }
 
+/// Some services alone, compared, timed and counted again, and the stack of all; the rows of the other services stay, and what they were taken on.
+pub fn measure_again(plan: Plan, words: &[&str]) {
+    let again: Vec<Service> = words.iter().map(|word| Service::named(word)).collect();
+    let old = rows::read(&load("times.tsv"));
+    let kept = |service: Service| old.iter().filter(|row| row.service == service.word()).cloned().collect();
+    let measured = |service| if again.contains(&service) { measure_service(plan, service) } else { kept(service) };
+    let rows: Vec<Row> = Service::ALL.into_iter().flat_map(measured).collect();
+    save("times.tsv", &rows::write(&rows));
+    save("stack.tsv", &measure_stack());
+    write();
+}
+
 /// The cost against sizes alone: it is counted and not timed, so that it can be had by itself.
 pub fn measure_sizes() {
     save("sizes.tsv", &sizes::measure());
