@@ -34,7 +34,7 @@ use Rattle.checker.specs.Answers.{checkedAnswer, PassedExactlyUnder}
 use Rattle.writer.specs.Answers.{OfWritten}
 use Rattle.repack.specs.Repack.{repackedLength, repackVerdict, repackAnswer, repackAnswerWith}
 use Rattle.repack.proofs.Answering.{repack-numbered}
-use Rattle.merge.specs.Repeats.{hasTerms}
+use Rattle.repeats.specs.Repeats.{hasTerms}
 use Rattle.merge.specs.Merge.{mergedLength, mergeVerdict, mergeAnswer, mergeAnswerWith}
 use Rattle.merge.proofs.Answering.{merge-numbered}
 use Rattle.lihumbay.specs.Answers.{numbersOf, mergeNumbers}

@@ -21,9 +21,9 @@ use Rattle.sheet.proofs.Numbered.{Numbered, either, test, sheet-numbered}
 use Rattle.writer.specs.Answers.{outputAfter}
 use Rattle.canonical.specs.Canonical.{canonical}
 use Rattle.repack.specs.Promises.{Alike}
-use Rattle.merge.specs.Repeats.{withoutRepeats, hasTerms}
-use Rattle.merge.specs.Merge.{whichRefused, whichRefusedWith, mergedConditions, merged, mergedLength, check18, check19, mergeVerdict, mergeVerdictWith, mergeAnswer, mergeAnswerWith, mergeOut, mergeOutWith}
-use Rattle.merge.proofs.Left.{mustStay}
+use Rattle.repeats.specs.Repeats.{withoutRepeats, hasTerms, mergedConditions}
+use Rattle.repeats.proofs.Left.{mustStay}
+use Rattle.merge.specs.Merge.{whichRefused, whichRefusedWith, merged, mergedLength, check18, check19, mergeVerdict, mergeVerdictWith, mergeAnswer, mergeAnswerWith, mergeOut, mergeOutWith}
 use Rattle.merge.proofs.Merged.{merged-length, merged-itself, itself-terms}
 
 -- ---- which sheet is refused

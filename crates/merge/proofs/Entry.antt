@@ -11,9 +11,9 @@ use Rattle.sheet.specs.Answers.{Answer, refused, answered}
 use Rattle.writer.specs.Answers.{outputAfter, OfWritten}
 use Rattle.equality.specs.Meaning.{Meets}
 use Rattle.repack.specs.Repack.{repacked}
+use Rattle.repeats.specs.Repeats.{hasTerms, mergedConditions}
 use Rattle.merge.specs.declared.MergeAnswer.{MergeAnswer}
-use Rattle.merge.specs.Repeats.{hasTerms}
-use Rattle.merge.specs.Merge.{whichRefused, mergedConditions, merged, mergeVerdict, mergeAnswer, mergeOut}
+use Rattle.merge.specs.Merge.{whichRefused, merged, mergeVerdict, mergeAnswer, mergeOut}
 use Rattle.merge.specs.Answers.{mergedAnswer, sheetRefused}
 use Rattle.merge.specs.Promises.{MeetsBoth, Placed}
 use Rattle.merge.proofs.Merged.{merged-accepted, merged-lots, merged-conditions, merged-packed, merged-meets}

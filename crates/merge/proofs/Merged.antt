@@ -1,12 +1,12 @@
 -- The sheet that a merge writes (document 02, job 4), for every rule of which conditions may be left out.
-use Prim.Native.Nat.{ℕ, max, _+_, _≤_, _<_}
-use mathlib.Core.Bool.{Bool, true}
-use mathlib.Core.List.{List, [], _∷_, _++_, flatten, Sublistᴰ}
-use mathlib.Core.Logic.{_↔_, _≢_}
+use Prim.Native.Nat.{ℕ, max, _+_, _≤_}
+use mathlib.Core.Bool.{Bool}
+use mathlib.Core.List.{List, [], _∷_, _++_, flatten}
+use mathlib.Core.Logic.{_↔_}
 use mathlib.Core.Path.{_≡_, refl, ap, ap₂, _∙_}
 use native.Mathlib.Nat.{max-le, le-max-left, le-max-right}
 use native.Mathlib.Omega.{arith}
-use lib.ListN.{length, getD, length-append}
+use lib.ListN.{length, length-append}
 use Rattle.buffers.specs.Lists.{All}
 use Rattle.buffers.proofs.Lists.{all-map, all-both, all-first, all-second}
 use Rattle.sheet.specs.Format.{mostConditions, mostRecords, lotCount, conditionCount}
@@ -19,9 +19,10 @@ use Rattle.canonical.proofs.Canonical.{canonical-length, canonical-lots, canoni
 use Rattle.equality.specs.Meaning.{MeetsCondition, MeetsAll, Meets}
 use Rattle.repack.specs.Repack.{repacked}
 use Rattle.writer.proofs.Packing.{terms-append}
-use Rattle.merge.specs.Repeats.{withoutRepeats, hasTerms}
-use Rattle.merge.specs.Merge.{mergedLots, mergedConditions, merged, mergedLength}
-use Rattle.merge.proofs.Left.{left-append, left-part, left-few, left-terms, left-all, all-left, left-unrepeated, unrepeated-at, left-every, mustStay, left-known}
+use Rattle.repeats.specs.Repeats.{withoutRepeats, hasTerms, mergedConditions}
+use Rattle.repeats.proofs.Left.{left-few, left-terms, left-all, all-left, left-every, mustStay, left-known}
+use Rattle.repeats.proofs.Result.{merged-halves}
+use Rattle.merge.specs.Merge.{mergedLots, merged, mergedLength}
 
 -- Lots of fewer are lots of more.
 more-lots : (n m : ℕ) → n ≤ m → (tss : List (List Term)) → All (All (TermIn n)) tss → All (All (TermIn m)) tss
@@ -30,31 +31,6 @@ more-lots n m h = all-map (all-map (λ t within. (record { low = within .0 .low;
 module _ (mayLeaveOut : List Term → Bool) (s t : List ℕ) where
   abbrev result : List (List Term)
   result = mergedConditions mayLeaveOut s t
-
-  -- ---- its conditions
-
-  -- Those of the first that stay, and then those of the second that stay behind them:
-  abbrev pub ofFirst : List (List Term)
-  ofFirst = withoutRepeats mayLeaveOut [] (conditions s)
-
-  abbrev pub ofSecond : List (List Term)
-  ofSecond = withoutRepeats mayLeaveOut ofFirst (conditions t)
-
-  pub merged-halves : result ≡ ofFirst ++ ofSecond
-  unfolding mergedConditions
-  merged-halves = left-append mayLeaveOut [] (conditions s) (conditions t)
-
-  -- the order within each sheet is kept,
-  pub order-first : Sublistᴰ ofFirst (conditions s)
-  order-first = left-part mayLeaveOut [] (conditions s)
-
-  pub order-second : Sublistᴰ ofSecond (conditions t)
-  order-second = left-part mayLeaveOut ofFirst (conditions t)
-
-  -- and no two conditions that may be left out are equal.
-  pub merged-unequal : (i j : ℕ) → i < j → j < length result → mayLeaveOut (getD result i []) ≡ true → getD result i [] ≢ getD result j []
-  unfolding mergedConditions
-  merged-unequal = unrepeated-at mayLeaveOut result (left-unrepeated mayLeaveOut [] (conditions s ++ conditions t))
 
   -- ---- what it says
 

@@ -7,12 +7,11 @@ use native.Mathlib.Omega.{arith}
 use lib.ListN.{length, getD, take, drop, length-append, take-append-drop, List·getD-append}
 use lib.Seq.{take-suc, drop-cons, take-append-le, getD-append-seam}
 use Rattle.sheet.specs.Conditions.{Term, conditions}
-use Rattle.merge.specs.Repeats.{repeats, withoutRepeats, hasTerms}
-use Rattle.merge.specs.Merge.{mergedConditions}
+use Rattle.repeats.specs.Repeats.{repeats, withoutRepeats, hasTerms, mergedConditions}
+use Rattle.repeats.proofs.Equal.{repeated-all}
+use Rattle.repeats.proofs.Left.{SameOnes, each-repeats, left-same, left-append, left-all, left-every}
 use Rattle.merge.specs.Places.{StandsAt, leftOut, leftOutBefore}
 use Rattle.merge.specs.Promises.{Placed}
-use Rattle.merge.proofs.Equal.{repeated-all}
-use Rattle.merge.proofs.Left.{SameOnes, each-repeats, left-same, left-append, left-all, left-every}
 
 module _ (mayLeaveOut : List Term → Bool) where
   abbrev stay : List (List Term) → List (List Term)

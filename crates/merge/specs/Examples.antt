@@ -10,8 +10,8 @@ use Rattle.sheet.specs.Conditions.{chain, recordsFrom, termsFrom, countUp, cond
 use Rattle.sheet.specs.Answers.{Answer, refused, answered}
 use Rattle.canonical.specs.Canonical.{termRecord, chainRecords, sheetRecords, headsFrom, canonical}
 use Rattle.repack.specs.Examples.{shuffledC, sheetC, vacantOnly, empty, short, unreached, room}
-use Rattle.merge.specs.Repeats.{equalTerms, equalConditions, repeats, withoutRepeats, hasTerms, anyCondition}
-use Rattle.merge.specs.Merge.{whichRefused, whichRefusedWith, mergedConditions, check18, check19, mergeVerdictWith, mergeAnswer, mergeAnswerWith, mergeOut, mergeOutWith}
+use Rattle.repeats.specs.Repeats.{equalTerms, equalConditions, repeats, withoutRepeats, hasTerms, anyCondition, mergedConditions}
+use Rattle.merge.specs.Merge.{whichRefused, whichRefusedWith, check18, check19, mergeVerdictWith, mergeAnswer, mergeAnswerWith, mergeOut, mergeOutWith}
 use Rattle.merge.specs.Places.{leftOut, leftOutBefore}
 
 -- Document 01's sheet C has "same 1 2 or same 1 3" and "apart 1 2". This one has: "apart 1 2"; "same 1 3 or same 1 2"; "same 2 1"; "same 4 5".

@@ -1,7 +1,5 @@
-pub mod Repeats
 pub mod Merge
 pub mod Places
 pub mod Answers
 pub mod Promises
 pub mod Examples
-pub mod Inner

@@ -8,11 +8,11 @@ use Rattle.sheet.specs.declared.Verdict.{Verdict}
 use Rattle.sheet.specs.declared.Verdict.the-variants.{Passes, Refuses}
 use Rattle.sheet.specs.Format.{lowestLot, mostConditions, mostRecords, lotCount}
 use Rattle.sheet.specs.Checks.{orElse, refusesIf, firstRefusal, sheetChecksWith, sheetVerdictWith}
-use Rattle.sheet.specs.Conditions.{Term, conditions}
+use Rattle.sheet.specs.Conditions.{Term}
 use Rattle.sheet.specs.Answers.{Answer, answered, answerOf}
 use Rattle.canonical.specs.Canonical.{canonical, canonicalLength}
 use Rattle.writer.specs.Answers.{outputAfter}
-use Rattle.merge.specs.Repeats.{withoutRepeats}
+use Rattle.repeats.specs.Repeats.{mergedConditions}
 
 -- "lots are the larger n"
 abbrev pub mergedLots : List ℕ → List ℕ → ℕ
@@ -32,23 +32,19 @@ abbrev pub whichRefused : List ℕ → List ℕ → ℕ
 whichRefused s t = whichRefusedWith lowestLot s t
 
 module _ (mayLeaveOut : List Term → Bool) (s t : List ℕ) where
-  -- "the conditions of the first come in order, then those of the second; one with the same terms in the same order as an earlier one is left out"
-  unfoldable pub mergedConditions : List (List Term)
-  mergedConditions = withoutRepeats mayLeaveOut [] (conditions s ++ conditions t)
-
   -- "The result is packed."
   abbrev pub merged : List ℕ
-  merged = canonical (mergedLots s t) mergedConditions
+  merged = canonical (mergedLots s t) (mergedConditions mayLeaveOut s t)
 
   -- "the length needed"
   abbrev pub mergedLength : ℕ
-  mergedLength = canonicalLength mergedConditions
+  mergedLength = canonicalLength (mergedConditions mayLeaveOut s t)
 
   -- "18, merged m, then k, above its most (place 2 or 3)"
   unfoldable pub check18 : Verdict
   check18 =
-      orElse (refusesIf (ltb mostConditions (length mergedConditions)) 18 2)
-      (refusesIf (ltb mostRecords (length (flatten mergedConditions))) 18 3)
+      orElse (refusesIf (ltb mostConditions (length (mergedConditions mayLeaveOut s t))) 18 2)
+      (refusesIf (ltb mostRecords (length (flatten (mergedConditions mayLeaveOut s t)))) 18 3)
 
   -- "19, output too short (place the length needed)"
   unfoldable pub check19 : List ℕ → Verdict

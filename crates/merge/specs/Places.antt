@@ -6,7 +6,7 @@ use mathlib.Core.List.{List, []}
 use mathlib.Core.Path.{_≡_}
 use lib.ListN.{length, getD, take}
 use Rattle.sheet.specs.Conditions.{Term}
-use Rattle.merge.specs.Repeats.{repeats}
+use Rattle.repeats.specs.Repeats.{repeats}
 
 -- At place i of these stands the condition ts.
 pub record StandsAt (tss : List (List Term)) (i : ℕ) (ts : List Term) : Type 0 where

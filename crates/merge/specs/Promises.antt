@@ -6,7 +6,7 @@ use mathlib.Core.Logic.{_↔_}
 use mathlib.Core.Path.{_≡_}
 use Rattle.sheet.specs.Conditions.{Term, conditions}
 use Rattle.equality.specs.Meaning.{Meets}
-use Rattle.merge.specs.Repeats.{hasTerms}
+use Rattle.repeats.specs.Repeats.{hasTerms}
 use Rattle.merge.specs.Places.{StandsAt, leftOut, leftOutBefore}
 
 -- "A numbering meets it exactly when it meets both sheets.": every function from lots to whole numbers, and so each that has 0 for lot 0.

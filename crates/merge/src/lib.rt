@@ -1,8 +1,5 @@
 // Merging: two accepted sheets become one, which has the conditions of the first and then those of the second, without repeats, and with all that are
 // withdrawn.
-mod chains; // chains.rt: digests of chains, and whether two have the same terms
-mod kept; // kept.rt: the conditions that stay
-
 ghost use mathlib.Core.Path.{_≡_};
 ghost use Prim.Native.Nat.{max};
 ghost use Rattle.sheet.specs.Format.{lotCount};
@@ -11,10 +8,11 @@ ghost use Rattle.sheet.specs.Conditions.{conditions};
 ghost use Rattle.sheet.specs.Inner.{HasConditions};
 ghost use Rattle.writer.specs.Answers.{OfWritten};
 ghost use Rattle.repack.specs.Repack.{repacked};
-ghost use Rattle.merge.specs.Repeats.{hasTerms};
-ghost use Rattle.merge.specs.Merge.{mergedLots, mergedConditions, whichRefused, mergeAnswer, mergeOut};
+ghost use Rattle.repeats.specs.Repeats.{hasTerms, mergedConditions};
+ghost use Rattle.merge.specs.Merge.{mergedLots, whichRefused, mergeAnswer, mergeOut};
 ghost use Rattle.merge.specs.Answers.{mergedAnswer, sheetRefused};
 ghost use Rattle.merge.specs.Promises.{MeetsBoth, Placed};
+use repeats::kept;
 use sheet::Reading;
 
 // What a merge answers: the length that it wrote, or a refusal, on which nothing is written: of the first sheet, of the second, or of both together.

@@ -6,8 +6,8 @@ use mathlib.Core.Path.{_≡_, refl, ap}
 use native.Mathlib.Omega.{arith}
 use lib.ListN.{length}
 use Rattle.sheet.specs.Conditions.{Term}
-use Rattle.merge.specs.Repeats.{equalConditions, repeats, withoutRepeats, anyCondition, hasTerms}
-use Rattle.merge.proofs.Left.{mustStay}
+use Rattle.repeats.specs.Repeats.{equalConditions, repeats, withoutRepeats, anyCondition, hasTerms}
+use Rattle.repeats.proofs.Left.{mustStay}
 
 -- How many of these have no term.
 abbrev pub emptyCount : List (List Term) → ℕ

@@ -12,7 +12,8 @@ use Rattle.sheet.specs.Format.{mostConditions, mostRecords}
 use Rattle.sheet.specs.Checks.{Accepted, orElse, refusesIf, firstRefusal}
 use Rattle.sheet.specs.Conditions.{Term}
 use Rattle.sheet.specs.Answers.{Answer, refused, answered}
-use Rattle.merge.specs.Merge.{mergedConditions, mergedLength, check18, mergeAnswer, mergeVerdict}
+use Rattle.repeats.specs.Repeats.{mergedConditions}
+use Rattle.merge.specs.Merge.{mergedLength, check18, mergeAnswer, mergeVerdict}
 use Rattle.merge.proofs.Answering.{answerBy, answer-by, both-accepted, many-conditions, many-terms, output-short, all-pass}
 
 module _ (mayLeaveOut : List Term → Bool) (s t out : List ℕ) where

@@ -15,8 +15,8 @@ use Rattle.sheet.specs.Format.{mostConditions, mostRecords}
 use Rattle.sheet.specs.Checks.{Accepted, sheetVerdict}
 use Rattle.sheet.specs.Conditions.{Term, conditions}
 use Rattle.sheet.specs.Answers.{Answer, refused, answered}
-use Rattle.merge.specs.Repeats.{repeats, anyCondition, hasTerms}
-use Rattle.merge.specs.Merge.{mergedConditions, merged, mergedLength, check18, check19, mergeVerdict, mergeVerdictWith, mergeAnswer, mergeAnswerWith, mergeOut, mergeOutWith}
+use Rattle.repeats.specs.Repeats.{repeats, anyCondition, hasTerms, mergedConditions}
+use Rattle.merge.specs.Merge.{merged, mergedLength, check18, check19, mergeVerdict, mergeVerdictWith, mergeAnswer, mergeAnswerWith, mergeOut, mergeOutWith}
 use Rattle.merge.proofs.Answering.{answer-by, output-by, first-refused, second-refused, many-conditions, output-short, all-pass}
 use Rattle.withdrawn_places.specs.Changes.{withdrawnCount, Changes, ChangesExactly}
 use Rattle.withdrawn_places.proofs.Beside.{emptyCount, beside-terms, beside-count, beside-alike}

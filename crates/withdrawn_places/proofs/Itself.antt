@@ -7,8 +7,7 @@ use lib.ListN.{length}
 use Rattle.sheet.specs.Format.{mostConditions, conditionCount}
 use Rattle.sheet.specs.Checks.{Accepted}
 use Rattle.sheet.proofs.Accepted.{sound}
-use Rattle.merge.specs.Repeats.{hasTerms}
-use Rattle.merge.specs.Merge.{mergedConditions}
+use Rattle.repeats.specs.Repeats.{hasTerms, mergedConditions}
 use Rattle.merge.proofs.Merged.{itself-few}
 use Rattle.withdrawn_places.specs.Changes.{withdrawnCount}
 use Rattle.withdrawn_places.proofs.Counting.{withdrawn-count}

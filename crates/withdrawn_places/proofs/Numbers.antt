@@ -9,7 +9,7 @@ use Rattle.sheet.specs.Format.{conditionCount}
 use Rattle.sheet.specs.Checks.{Accepted}
 use Rattle.sheet.specs.Conditions.{Term, conditionAt, conditions}
 use Rattle.sheet.proofs.Conditions.{conditions-length, conditions-at, withdrawn-empty, empty-withdrawn}
-use Rattle.merge.specs.Repeats.{hasTerms}
+use Rattle.repeats.specs.Repeats.{hasTerms}
 use Rattle.merge.specs.Places.{StandsAt, leftOutBefore}
 use Rattle.merge.specs.Promises.{Placed}
 use Rattle.merge.proofs.Places.{stay-before, before-front}

@@ -11,8 +11,8 @@ use Rattle.sheet.specs.declared.Verdict.the-variants.{Refuses}
 use Rattle.sheet.specs.Format.{mostConditions, conditionCount, headAt}
 use Rattle.sheet.specs.Checks.{Accepted}
 use Rattle.sheet.specs.Answers.{refused, answered}
-use Rattle.merge.specs.Repeats.{hasTerms, anyCondition}
-use Rattle.merge.specs.Merge.{mergedConditions, merged, mergedLength, check18, mergeAnswer, mergeOut}
+use Rattle.repeats.specs.Repeats.{hasTerms, anyCondition, mergedConditions}
+use Rattle.merge.specs.Merge.{merged, mergedLength, check18, mergeAnswer, mergeOut}
 
 -- How many struck conditions a sheet holds, those with head zero: of `count` from condition c on, and of all.
 unfoldable pub withdrawnFrom : List ℕ → ℕ → ℕ → ℕ

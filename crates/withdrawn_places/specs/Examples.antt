@@ -9,8 +9,8 @@ use Rattle.sheet.specs.Conditions.{chain, recordsFrom, termsFrom, countUp, cond
 use Rattle.sheet.specs.Answers.{Answer, refused, answered}
 use Rattle.canonical.specs.Canonical.{termRecord, chainRecords, sheetRecords, headsFrom, canonical}
 use Rattle.repack.specs.Examples.{sheetC, empty, unreached, room}
-use Rattle.merge.specs.Repeats.{equalTerms, equalConditions, repeats, withoutRepeats, hasTerms, anyCondition}
-use Rattle.merge.specs.Merge.{mergedConditions, check18, check19, mergeVerdictWith, mergeAnswer, mergeAnswerWith}
+use Rattle.repeats.specs.Repeats.{equalTerms, equalConditions, repeats, withoutRepeats, hasTerms, anyCondition, mergedConditions}
+use Rattle.merge.specs.Merge.{check18, check19, mergeVerdictWith, mergeAnswer, mergeAnswerWith}
 use Rattle.merge.specs.Examples.{repeated, withdrawnTwice, allWithdrawn, mostWithdrawn}
 use Rattle.withdrawn_places.specs.Changes.{withdrawnFrom, withdrawnCount}
 

@@ -4,7 +4,7 @@ use mathlib.Core.List.{List, _++_}
 use mathlib.Core.Path.{_≡_}
 use Rattle.sheet.specs.Format.{conditionCount, headAt}
 use Rattle.sheet.specs.Conditions.{conditions}
-use Rattle.merge.specs.Repeats.{hasTerms}
+use Rattle.repeats.specs.Repeats.{hasTerms}
 use Rattle.merge.specs.Places.{leftOutBefore}
 
 -- Condition c of a sheet is withdrawn.

@@ -19,8 +19,8 @@ use Rattle.outcome.specs.Nodes.{records}
 use Rattle.outcome.specs.Outcome.{resultOf, searchOutcomeWith}
 use Rattle.canonical.specs.Canonical.{termRecord, chainRecords, sheetRecords, headsFrom, canonical}
 use Rattle.repack.specs.Repack.{check16, repackVerdictWith, repackAnswerWith, repackOutWith}
-use Rattle.merge.specs.Repeats.{equalTerms, equalConditions, repeats, withoutRepeats, hasTerms}
-use Rattle.merge.specs.Merge.{whichRefusedWith, mergedConditions, check18, check19, mergeVerdictWith, mergeAnswerWith, mergeOutWith}
+use Rattle.repeats.specs.Repeats.{equalTerms, equalConditions, repeats, withoutRepeats, hasTerms, mergedConditions}
+use Rattle.merge.specs.Merge.{whichRefusedWith, check18, check19, mergeVerdictWith, mergeAnswerWith, mergeOutWith}
 use Rattle.text.specs.Lines.{digits, decimal, line}
 use Rattle.text.specs.Program.{headerLine, recordLine, recordLines, refusedLine, metLine, cannotLine, resultText, printedWith}
 

@@ -7,8 +7,7 @@ use Rattle.sheet.specs.Format.{lotCount}
 use Rattle.sheet.specs.Checks.{Accepted}
 use Rattle.sheet.specs.Conditions.{conditions}
 use Rattle.repack.specs.Repack.{repacked}
-use Rattle.merge.specs.Repeats.{hasTerms}
-use Rattle.merge.specs.Merge.{mergedConditions}
+use Rattle.repeats.specs.Repeats.{hasTerms, mergedConditions}
 use Rattle.merge.specs.Answers.{mergedAnswer, sheetRefused}
 use Rattle.merge.specs.Promises.{MeetsBoth, Placed}
 use Rattle.lihumbay.specs.Answers.{mergeNumbers}

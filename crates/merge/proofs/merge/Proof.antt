@@ -4,8 +4,8 @@ use borrow.Author.Needs.{needs}
 use Rattle.sheet.specs.declared.Verdict.the-variants.{Refuses}
 use Rattle.sheet.specs.Answers.{readingAnswer}
 use Rattle.sheet.proofs.Readings.{ReadAs, read-accepts, read-refuses}
+use Rattle.repeats.specs.Repeats.{hasTerms}
 use Rattle.merge.specs.declared.MergeAnswer.the-variants.{FirstRefused}
-use Rattle.merge.specs.Repeats.{hasTerms}
 use Rattle.merge.proofs.Answering.{which-first, first-refused}
 use Rattle.merge.proofs.Entry.{equations, ensured}
 use Rattle.merge.proofs.merge.Statement.{statement}

@@ -10,10 +10,10 @@ use Rattle.sheet.specs.Format.{mostConditions, mostRecords, sheetLength}
 use Rattle.sheet.specs.Answers.{refused, answered}
 use Rattle.sheet.proofs.Accepted.{sound}
 use Rattle.writer.specs.Drafts.{Draft, withConditions}
+use Rattle.repeats.specs.Repeats.{hasTerms, mergedConditions}
+use Rattle.repeats.specs.Inner.{Entered}
 use Rattle.merge.specs.declared.MergeAnswer.the-variants.{Written, Refused}
-use Rattle.merge.specs.Repeats.{hasTerms}
-use Rattle.merge.specs.Merge.{mergedConditions, mergedLength, mergeVerdict}
-use Rattle.merge.specs.Inner.{Entered}
+use Rattle.merge.specs.Merge.{mergedLength, mergeVerdict}
 use Rattle.merge.proofs.Counts.{needed, room-mine, room-others, counts-whole}
 use Rattle.merge.proofs.Answering.{which-neither, many-conditions, many-terms, output-short, all-pass}
 use Rattle.merge.proofs.Entry.{Equations, equations}

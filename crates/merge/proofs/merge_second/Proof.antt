@@ -5,8 +5,8 @@ use borrow.Author.Needs.{needs}
 use Rattle.sheet.specs.declared.Verdict.the-variants.{Refuses}
 use Rattle.sheet.specs.Answers.{readingAnswer}
 use Rattle.sheet.proofs.Readings.{ReadAs, read-accepts, read-refuses}
+use Rattle.repeats.specs.Repeats.{hasTerms}
 use Rattle.merge.specs.declared.MergeAnswer.the-variants.{SecondRefused}
-use Rattle.merge.specs.Repeats.{hasTerms}
 use Rattle.merge.specs.Merge.{mergedLots}
 use Rattle.merge.proofs.Answering.{which-second, second-refused}
 use Rattle.merge.proofs.Entry.{equations}

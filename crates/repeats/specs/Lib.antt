@@ -1,0 +1,3 @@
+pub mod Repeats
+pub mod Examples
+pub mod Inner
