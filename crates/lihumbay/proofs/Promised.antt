@@ -37,7 +37,7 @@ use Rattle.repack.proofs.Answering.{repack-numbered}
 use Rattle.repeats.specs.Repeats.{hasTerms}
 use Rattle.merge.specs.Merge.{mergedLength, mergeVerdict, mergeAnswer, mergeAnswerWith}
 use Rattle.merge.proofs.Answering.{merge-numbered}
-use Rattle.lihumbay.specs.Answers.{numbersOf, mergeNumbers}
+use Rattle.numbers.specs.Answers.{numbersOf, mergeNumbers}
 use Rattle.lihumbay.specs.Promises.{ZeroExactly, NineExactly, OneExactly, OneMeets, OneZero, TwoExactly, TwoWhichever, TwoRefutes, NodesBounded, FirstUnmet, NineExactlyUnder, OneExactlyUnder, OneMeetsUnder, OneZeroUnder, TwoExactlyUnder, TwoWhicheverUnder, TwoRefutesUnder, ZeroPassedUnder, ZeroWritten}
 
 -- The refusal of an answer is its verdict's.

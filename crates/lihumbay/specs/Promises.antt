@@ -18,7 +18,7 @@ use Rattle.store.specs.Records.{recordLength, capacity}
 use Rattle.outcome.specs.Outcome.{ZeroGroup}
 use Rattle.outcome.specs.Limited.{treeOf, verdictUnder, GroupingMeetsUnder, ZeroGroupUnder}
 use Rattle.refutation.specs.Refutation.{Refutes, RefutesUnder}
-use Rattle.lihumbay.specs.declared.Numbers.{Numbers}
+use Rattle.numbers.specs.declared.Numbers.{Numbers}
 
 -- Of the reader: no check refuses exactly when the sheet is accepted.
 abbrev pub ZeroExactly : Numbers → List ℕ → Type 0

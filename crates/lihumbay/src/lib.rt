@@ -4,136 +4,21 @@ ghost use Prim.Native.Nat.{max};
 ghost use Rattle.sheet.specs.Format.{lotCount};
 ghost use Rattle.sheet.specs.Checks.{Accepted};
 ghost use Rattle.sheet.specs.Conditions.{conditions};
-ghost use Rattle.sheet.specs.Answers.{refused, answered, readAnswer, readingAnswer};
+ghost use Rattle.sheet.specs.Answers.{readAnswer};
 ghost use Rattle.equality.specs.Evaluator.{evaluateAnswer};
-ghost use Rattle.evaluator.specs.Answers.{evaluationAnswer};
 ghost use Rattle.outcome.specs.Outcome.{searchOutcome};
 ghost use Rattle.limit.specs.Meaning.{upTo};
-ghost use Rattle.search.specs.Answers.{searchAnswer};
 ghost use Rattle.search.specs.Limited.{limitedOutcome};
 ghost use Rattle.refutation.specs.Refutation.{checkAnswer, limitedCheckAnswer};
-ghost use Rattle.checker.specs.Answers.{checkedAnswer};
-ghost use Rattle.writer.specs.Answers.{writtenAnswer};
 ghost use Rattle.repack.specs.Repack.{repacked, repackAnswer, repackOut};
 ghost use Rattle.repack.specs.Promises.{Alike, ServedAlike};
 ghost use Rattle.repeats.specs.Repeats.{hasTerms, mergedConditions};
 ghost use Rattle.merge.specs.Merge.{whichRefused, mergeAnswer, mergeOut};
-ghost use Rattle.merge.specs.Answers.{mergedAnswer, sheetRefused};
 ghost use Rattle.merge.specs.Promises.{MeetsBoth, Placed};
-ghost use Rattle.lihumbay.specs.Answers.{numbersOf, mergeNumbers};
+ghost use Rattle.numbers.specs.Answers.{numbersOf, mergeNumbers};
 ghost use Rattle.lihumbay.specs.Promises.{ZeroExactly, NineExactly, OneExactly, OneMeets, OneZero, TwoExactly, TwoWhichever, TwoRefutes, NodesBounded, FirstUnmet, ZeroPassed, ZeroMeans, ZeroWritten};
 ghost use Rattle.lihumbay.specs.Promises.{NineExactlyUnder, OneExactlyUnder, OneMeetsUnder, OneZeroUnder, TwoExactlyUnder, TwoWhicheverUnder, TwoRefutesUnder, ZeroPassedUnder, ZeroMeansUnder};
-use checker::CheckAnswer;
-use evaluator::Evaluation;
-use merge::MergeAnswer;
-use search::SearchAnswer;
-use sheet::Reading;
-use writer::WriteAnswer;
-
-// An answer: the check that refused, 0 where none did, then the place, or the values. Behind the place a merge has the number of the sheet that was refused.
-#[repr(C)]
-pub struct Numbers {
-    pub check: u32,
-    pub first: u32,
-    pub second: u32,
-    pub third: u32,
-}
-
-fn refused(check: u32, place: u32) -> Numbers
-    ensures { λ r. ⌜ r ≡ numbersOf (refused check place) ⌝ }
-{
-    Numbers {
-        check,
-        first: place,
-        second: 0,
-        third: 0,
-    }
-}
-
-fn answered(first: u32, second: u32, third: u32) -> Numbers
-    ensures { λ r. ⌜ r ≡ numbersOf (answered first second third) ⌝ }
-{
-    Numbers {
-        check: 0,
-        first,
-        second,
-        third,
-    }
-}
-
-fn of_reading(reading: Reading) -> Numbers
-    ensures { λ r. ⌜ r ≡ numbersOf (readingAnswer reading) ⌝ }
-{
-    match reading {
-        Reading::Refused { check, place } => refused(check, place),
-        Reading::Accepted {
-            lots,
-            conditions,
-            records,
-        } => answered(lots as u32, conditions as u32, records as u32),
-    }
-}
-
-fn of_evaluation(evaluation: Evaluation) -> Numbers
-    ensures { λ r. ⌜ r ≡ numbersOf (evaluationAnswer evaluation) ⌝ }
-{
-    match evaluation {
-        Evaluation::Refused { check, place } => refused(check, place),
-        Evaluation::Unmet(c) => answered(c.0 as u32, 0, 0),
-        Evaluation::AllMet => answered(0, 0, 0),
-    }
-}
-
-fn of_search(answer: SearchAnswer) -> Numbers
-    ensures { λ r. ⌜ r ≡ numbersOf (searchAnswer answer) ⌝ }
-{
-    match answer {
-        SearchAnswer::Refused { check, place } => refused(check, place),
-        SearchAnswer::Full { capacity } => refused(9, capacity),
-        SearchAnswer::Met { count } => answered(1, count, 0),
-        SearchAnswer::Cannot { count } => answered(2, count, 0),
-    }
-}
-
-fn of_check(answer: CheckAnswer) -> Numbers
-    ensures { λ r. ⌜ r ≡ numbersOf (checkedAnswer answer) ⌝ }
-{
-    match answer {
-        CheckAnswer::Refused { check, place } => refused(check, place),
-        CheckAnswer::Passed => answered(0, 0, 0),
-    }
-}
-
-fn of_written(answer: WriteAnswer) -> Numbers
-    ensures { λ r. ⌜ r ≡ numbersOf (writtenAnswer answer) ⌝ }
-{
-    match answer {
-        WriteAnswer::Refused { check, place } => refused(check, place),
-        WriteAnswer::Written { length } => answered(length, 0, 0),
-    }
-}
-
-fn refused_in(check: u32, place: u32, sheet: u32) -> Numbers
-    ensures { λ r. ⌜ r ≡ mergeNumbers (refused check place) sheet ⌝ }
-{
-    Numbers {
-        check,
-        first: place,
-        second: sheet,
-        third: 0,
-    }
-}
-
-fn of_merge(answer: MergeAnswer) -> Numbers
-    ensures { λ r. ⌜ r ≡ mergeNumbers (mergedAnswer answer) (sheetRefused answer) ⌝ }
-{
-    match answer {
-        MergeAnswer::FirstRefused { check, place } => refused_in(check, place, 1),
-        MergeAnswer::SecondRefused { check, place } => refused_in(check, place, 2),
-        MergeAnswer::Refused { check, place } => refused(check, place),
-        MergeAnswer::Written { length } => answered(length, 0, 0),
-    }
-}
+use numbers::Numbers;
 
 // The reader: lots, conditions and term records.
 #[no_mangle]
@@ -141,7 +26,7 @@ pub extern "C" fn lihumbay_read(sheet: &[u8]) -> Numbers
     ensures answer { λ r. ⌜ r ≡ numbersOf (readAnswer (now (sheet .entry))) ⌝ }
     ensures accepted { λ r. ⌜ ZeroExactly r (now (sheet .entry)) ⌝ }
 {
-    of_reading(reader::read(sheet))
+    numbers::of_reading(reader::read(sheet))
 }
 
 // The evaluator: 0 where all conditions are met, else the lowest that isn't.
@@ -150,7 +35,7 @@ pub extern "C" fn lihumbay_evaluate(sheet: &[u8], grouping: &[u8]) -> Numbers
     ensures answer { λ r. ⌜ r ≡ numbersOf (evaluateAnswer (now (sheet .entry)) (now (grouping .entry))) ⌝ }
     ensures meaning { λ r. ⌜ FirstUnmet r (now (sheet .entry)) (now (grouping .entry)) ⌝ }
 {
-    of_evaluation(evaluator::evaluate(sheet, grouping))
+    numbers::of_evaluation(evaluator::evaluate(sheet, grouping))
 }
 
 // The search: 1 for met or 2 for cannot, and the count of records.
@@ -168,7 +53,7 @@ pub extern "C" fn lihumbay_search(sheet: &[u8], grouping: &mut [u8], store: &mut
     ensures refutes { λ r. ⌜ TwoRefutes r (now (sheet .entry)) (now (store .exit)) ⌝ }
     ensures count { λ r. ⌜ NodesBounded r (now (sheet .entry)) ⌝ }
 {
-    of_search(search::search(sheet, grouping, store))
+    numbers::of_search(search::search(sheet, grouping, store))
 }
 
 // The refutation checker: no value where the list passes.
@@ -178,7 +63,7 @@ pub extern "C" fn lihumbay_check(sheet: &[u8], list: &[u8]) -> Numbers
     ensures passed { λ r. ⌜ ZeroPassed r (now (sheet .entry)) (now (list .entry)) ⌝ }
     ensures meaning { λ r. ⌜ ZeroMeans r (now (sheet .entry)) ⌝ }
 {
-    of_check(checker::check(sheet, list))
+    numbers::of_check(checker::check(sheet, list))
 }
 
 // The search under a limit on the classes: as the search.
@@ -200,7 +85,7 @@ pub extern "C" fn lihumbay_search_limited(
     ensures whichever { λ r. ⌜ TwoWhicheverUnder (upTo limit) r (now (sheet .entry)) ⌝ }
     ensures refutes { λ r. ⌜ TwoRefutesUnder (upTo limit) r (now (sheet .entry)) (now (store .exit)) ⌝ }
 {
-    of_search(search::search_limited(sheet, limit, grouping, store))
+    numbers::of_search(search::search_limited(sheet, limit, grouping, store))
 }
 
 // The refutation checker under a limit on the classes: as the checker.
@@ -210,7 +95,7 @@ pub extern "C" fn lihumbay_check_limited(sheet: &[u8], limit: u32, list: &[u8]) 
     ensures passed { λ r. ⌜ ZeroPassedUnder (upTo limit) r (now (sheet .entry)) (now (list .entry)) ⌝ }
     ensures meaning { λ r. ⌜ ZeroMeansUnder (upTo limit) r (now (sheet .entry)) ⌝ }
 {
-    of_check(checker::check_limited(sheet, limit, list))
+    numbers::of_check(checker::check_limited(sheet, limit, list))
 }
 
 // Repacking: how many bytes of the output were written.
@@ -222,7 +107,7 @@ pub extern "C" fn lihumbay_repack(sheet: &[u8], out: &mut [u8]) -> Numbers
     ensures again { λ r. ⌜ ZeroWritten (λ w. repacked w ≡ w) r (now (out .exit)) ⌝ }
     ensures alike { λ r. ⌜ ZeroWritten (λ w. ServedAlike w (now (sheet .entry))) r (now (out .exit)) ⌝ }
 {
-    of_written(repack::repack(sheet, out))
+    numbers::of_written(repack::repack(sheet, out))
 }
 
 // Merging: how many bytes of the output were written. A refusal from reading has 1 or 2 behind the place, for the sheet that it came from.
@@ -239,5 +124,5 @@ pub extern "C" fn lihumbay_merge(first: &[u8], second: &[u8], out: &mut [u8]) ->
     ensures meets { λ r. ⌜ ZeroWritten (λ w. MeetsBoth w (now (first .entry)) (now (second .entry))) r (now (out .exit)) ⌝ }
     ensures places { λ r. ⌜ ZeroWritten (λ w. Placed w (now (first .entry)) (now (second .entry))) r (now (out .exit)) ⌝ }
 {
-    of_merge(merge::merge(first, second, out))
+    numbers::of_merge(merge::merge(first, second, out))
 }

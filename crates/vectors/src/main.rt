@@ -7,7 +7,7 @@
 ghost use Prim.Native.Nat.{_≤_};
 ghost use lib.ListN.{length};
 use libc::STDOUT_FILENO;
-use lihumbay::Numbers;
+use numbers::Numbers;
 
 fn main() {
     let path = b"cases.bin";

@@ -2,7 +2,7 @@
 use borrow.Author.Needs.{needs}
 use mathlib.Core.Path.{ap, _∙_}
 use Rattle.limit.specs.Meaning.{upTo}
-use Rattle.lihumbay.specs.Answers.{numbersOf}
+use Rattle.numbers.specs.Answers.{numbersOf}
 use Rattle.lihumbay.proofs.Promised.{zero-passed, zero-means}
 use Rattle.lihumbay.proofs.lihumbay_check_limited.Statement.{statement}
 use Rattle.lihumbay.proofs.lihumbay_check_limited.Tie as tie

@@ -2,7 +2,7 @@
 use borrow.Author.Needs.{needs}
 use mathlib.Core.Path.{ap, _∙_}
 use Rattle.evaluator.specs.Answers.{evaluationAnswer}
-use Rattle.lihumbay.specs.Answers.{numbersOf}
+use Rattle.numbers.specs.Answers.{numbersOf}
 use Rattle.lihumbay.proofs.Promised.{first-unmet}
 use Rattle.lihumbay.proofs.lihumbay_evaluate.Statement.{statement}
 use Rattle.lihumbay.proofs.lihumbay_evaluate.Tie as tie

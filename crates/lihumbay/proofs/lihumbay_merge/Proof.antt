@@ -10,7 +10,7 @@ use Rattle.repack.specs.Repack.{repacked}
 use Rattle.repeats.specs.Repeats.{hasTerms, mergedConditions}
 use Rattle.merge.specs.Answers.{mergedAnswer, sheetRefused}
 use Rattle.merge.specs.Promises.{MeetsBoth, Placed}
-use Rattle.lihumbay.specs.Answers.{mergeNumbers}
+use Rattle.numbers.specs.Answers.{mergeNumbers}
 use Rattle.lihumbay.proofs.Promised.{zero-merged, merge-first}
 use Rattle.lihumbay.proofs.lihumbay_merge.Statement.{statement}
 use Rattle.lihumbay.proofs.lihumbay_merge.Tie as tie

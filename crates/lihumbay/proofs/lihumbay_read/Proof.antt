@@ -1,7 +1,7 @@
 -- `lihumbay::lihumbay_read`: the numbers of the reader's answer.
 use borrow.Author.Needs.{needs}
 use mathlib.Core.Path.{ap, _∙_}
-use Rattle.lihumbay.specs.Answers.{numbersOf}
+use Rattle.numbers.specs.Answers.{numbersOf}
 use Rattle.lihumbay.proofs.Promised.{zero-exactly}
 use Rattle.lihumbay.proofs.lihumbay_read.Statement.{statement}
 use Rattle.lihumbay.proofs.lihumbay_read.Tie as tie

@@ -6,7 +6,7 @@ use borrow.Author.Needs.{needs}
 use Rattle.writer.specs.Answers.{writtenAnswer}
 use Rattle.repack.specs.Repack.{repacked}
 use Rattle.repack.specs.Promises.{Alike, ServedAlike}
-use Rattle.lihumbay.specs.Answers.{numbersOf}
+use Rattle.numbers.specs.Answers.{numbersOf}
 use Rattle.lihumbay.proofs.Promised.{zero-written, repack-first}
 use Rattle.lihumbay.proofs.lihumbay_repack.Statement.{statement}
 use Rattle.lihumbay.proofs.lihumbay_repack.Tie as tie

@@ -6,7 +6,7 @@ use Rattle.outcome.specs.Outcome.{Outcome}
 use Rattle.outcome.proofs.Checked.{unlimited-outcome}
 use Rattle.search.specs.Answers.{searchAnswer}
 use Rattle.search.proofs.Promised.{refused-first}
-use Rattle.lihumbay.specs.Answers.{numbersOf}
+use Rattle.numbers.specs.Answers.{numbersOf}
 use Rattle.lihumbay.proofs.Promised.{nine, one, one-meets, one-zero, two, two-whichever, two-refutes, bounded}
 use Rattle.lihumbay.proofs.lihumbay_search.Statement.{statement}
 use Rattle.lihumbay.proofs.lihumbay_search.Tie as tie

@@ -4,7 +4,7 @@ use mathlib.Core.Path.{ap, _∙_}
 use Rattle.limit.specs.Meaning.{upTo}
 use Rattle.search.specs.Answers.{searchAnswer}
 use Rattle.search.proofs.Promised.{refused-first}
-use Rattle.lihumbay.specs.Answers.{numbersOf}
+use Rattle.numbers.specs.Answers.{numbersOf}
 use Rattle.lihumbay.proofs.Promised.{nine-under, one-under, one-meets-under, one-zero-under, two-under, two-whichever-under, two-refutes-under}
 use Rattle.lihumbay.proofs.lihumbay_search_limited.Statement.{statement}
 use Rattle.lihumbay.proofs.lihumbay_search_limited.Tie as tie

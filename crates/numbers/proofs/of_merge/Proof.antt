@@ -1,10 +1,10 @@
--- `lihumbay::of_merge`: the case that was answered, and its numbers.
+-- `numbers::of_merge`: the case that was answered, and its numbers.
 use borrow.Author.Needs.{needs}
 use mathlib.Core.Path.{sym, ap, _∙_}
 use Rattle.merge.specs.Answers.{mergedAnswer, sheetRefused}
-use Rattle.lihumbay.specs.Answers.{mergeNumbers}
-use Rattle.lihumbay.proofs.of_merge.Statement.{statement}
-use Rattle.lihumbay.proofs.of_merge.Tie as tie
+use Rattle.numbers.specs.Answers.{mergeNumbers}
+use Rattle.numbers.proofs.of_merge.Statement.{statement}
+use Rattle.numbers.proofs.of_merge.Tie as tie
 
 enum-known-answer : tie.Need-enum-known-answer
 enum-known-answer c = search needs

@@ -1,7 +1,7 @@
 -- An answer as four numbers, for callers in C and Rust.
 use Prim.Native.Nat.{ℕ}
 use Rattle.sheet.specs.Answers.{Answer, refused, answered}
-use Rattle.lihumbay.specs.declared.Numbers.{Numbers}
+use Rattle.numbers.specs.declared.Numbers.{Numbers}
 
 -- A refusal is its check, which is at least 1, and its place; an answer is 0 and its values.
 abbrev pub numbersOf : Answer → Numbers

@@ -1,10 +1,10 @@
--- `lihumbay::of_evaluation`: the case that was answered, and its numbers.
+-- `numbers::of_evaluation`: the case that was answered, and its numbers.
 use borrow.Author.Needs.{needs}
 use mathlib.Core.Path.{sym, ap, _∙_}
 use Rattle.evaluator.specs.Answers.{evaluationAnswer}
-use Rattle.lihumbay.specs.Answers.{numbersOf}
-use Rattle.lihumbay.proofs.of_evaluation.Statement.{statement}
-use Rattle.lihumbay.proofs.of_evaluation.Tie as tie
+use Rattle.numbers.specs.Answers.{numbersOf}
+use Rattle.numbers.proofs.of_evaluation.Statement.{statement}
+use Rattle.numbers.proofs.of_evaluation.Tie as tie
 
 enum-known-evaluation : tie.Need-enum-known-evaluation
 enum-known-evaluation c = search needs

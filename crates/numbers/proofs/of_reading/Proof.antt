@@ -1,10 +1,10 @@
--- `lihumbay::of_reading`: the case that was answered, and its numbers.
+-- `numbers::of_reading`: the case that was answered, and its numbers.
 use borrow.Author.Needs.{needs}
 use mathlib.Core.Path.{sym, ap, _∙_}
 use Rattle.sheet.specs.Answers.{readingAnswer}
-use Rattle.lihumbay.specs.Answers.{numbersOf}
-use Rattle.lihumbay.proofs.of_reading.Statement.{statement}
-use Rattle.lihumbay.proofs.of_reading.Tie as tie
+use Rattle.numbers.specs.Answers.{numbersOf}
+use Rattle.numbers.proofs.of_reading.Statement.{statement}
+use Rattle.numbers.proofs.of_reading.Tie as tie
 
 enum-known-reading : tie.Need-enum-known-reading
 enum-known-reading c = search needs
