@@ -1,11 +1,11 @@
 // One sheet, before all solvers and services.
-use crate::damage;
-use crate::partitions;
-use crate::services;
-use crate::services::Answer;
-use crate::table;
-use crate::tally::Damage;
-use crate::tally::Tally;
+use second_solver::Answer;
+use second_solver::partitions;
+use second_solver::table;
+use trials::damage;
+use trials::services;
+use trials::tally::Damage;
+use trials::tally::Tally;
 
 // The counts of a run: of the group, of damaged lists, of damaged sheets, of sheets with a condition withdrawn.
 pub struct Counts {

@@ -1,13 +1,13 @@
 // The groups of sheets: the generated ones, and those of standard input.
 use crate::examine;
 use crate::examine::Counts;
-use crate::generate;
-use crate::line;
-use crate::raw;
 use crate::say;
-use crate::services::Answer;
-use crate::tally::Damage;
 use libc::STDOUT_FILENO;
+use second_solver::Answer;
+use second_solver::generate;
+use second_solver::line;
+use second_solver::raw;
+use trials::tally::Damage;
 
 // How many sheets are generated for a group, and the generator's first state.
 const GENERATED: u32 = 600;

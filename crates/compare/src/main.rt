@@ -13,19 +13,12 @@
 // The sheet's bytes are in hexadecimal, and the numbers are those that the search is to answer. Standard output has a line for each group, and a
 // difference is counted wherever two answers differ. tests/make_compare.py writes the input, and the output too: by its own search, its own checker and its
 // own second solver.
-mod blanks; // blanks.rt: withdrawn conditions and vacant records
-mod damage; // damage.rt: damaged refutations and sheets, and conditions withdrawn
+//
+// The second solver, the second statement of the checks and the generator are the crate `second_solver`. The services' answers as numbers, what is damaged and
+// what is counted are the crate `trials`.
 mod examine; // examine.rt: one sheet, before all solvers and services
-mod generate; // generate.rt: sheets from a generator
 mod groups; // groups.rt: the groups of sheets
-mod line; // line.rt: numbers in a line
-mod partitions; // partitions.rt: the second solver
-mod raw; // raw.rt: bytes and two-byte numbers
 mod say; // say.rt: the lines of the output
-mod services; // services.rt: search, checker and evaluator
-mod splits; // splits.rt: lists with splits on a path, and grounds alone
-mod table; // table.rt: checks 1 to 8 and 17, a second time
-mod tally; // tally.rt: what is counted
 
 use libc::STDIN_FILENO;
 

@@ -1,10 +1,10 @@
 // The lines of the output.
 ghost use Prim.Native.Nat.{_≤_};
-use crate::services::Answer;
-use crate::splits;
-use crate::tally::Damage;
-use crate::tally::Tally;
 use libc::STDOUT_FILENO;
+use second_solver::Answer;
+use trials::splits;
+use trials::tally::Damage;
+use trials::tally::Tally;
 
 fn field(label: &[u8], x: u32) {
     io::write_all(STDOUT_FILENO, label);
