@@ -15,8 +15,8 @@ use Rattle.limit.specs.Meaning.{Limit}
 use Rattle.store.specs.Records.{NodeRecord, noRecord, recordLength, recordAt, recordsOf}
 use Rattle.refutation.specs.Refutation.{walkRecord, walkFrom, walkVerdict}
 use Rattle.path.specs.Paths.{pathOf}
-use Rattle.checker.specs.declared.Step.{Step}
-use Rattle.checker.specs.Steps.{Rest, WalkRest, stepAs, noneLeft}
+use Rattle.steps.specs.declared.Step.{Step}
+use Rattle.steps.specs.Steps.{Rest, WalkRest, stepAs, noneLeft}
 
 module _ (list : List ℕ) where
   records-length : length (recordsOf list) ≡ length list / recordLength

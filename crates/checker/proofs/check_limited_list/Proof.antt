@@ -3,7 +3,7 @@ use borrow.Author.Needs.{needs}
 use mathlib.Core.Path.{refl}
 use native.Mathlib.Omega.{arith}
 use Rattle.limit.specs.Scan.{limitOf}
-use Rattle.checker.proofs.Stepping.{no-deeper}
+use Rattle.steps.proofs.Stepping.{no-deeper}
 use Rattle.checker.proofs.check_limited_list.Statement.{statement}
 use Rattle.checker.proofs.check_limited_list.Tie as tie
 

@@ -12,8 +12,8 @@ use Rattle.limit.specs.Scan.{limitOf}
 use Rattle.store.specs.Records.{recordLength, recordsOf}
 use Rattle.refutation.specs.Refutation.{walkFrom, walkVerdict}
 use Rattle.levels.specs.Levels.{Walkable}
-use Rattle.checker.specs.declared.Step.{Step}
-use Rattle.checker.specs.Steps.{stepAs, GoesOn}
+use Rattle.steps.specs.declared.Step.{Step}
+use Rattle.steps.specs.Steps.{stepAs, GoesOn}
 use Rattle.checker.proofs.Walking.{Walking, walking-start, walking-step, walking-on, walking-end}
 use Rattle.checker.proofs.walk.Statement.{statement}
 use Rattle.checker.proofs.walk.Tie as tie

@@ -22,7 +22,7 @@ use Rattle.refutation.specs.Refutation.{mostSplits, Split, decisionsOf, groundF
 use Rattle.refutation.specs.Refutation.{named, conditionInRange, walkClique, walkRecord}
 use Rattle.path.specs.Paths.{splitIn, firstLotIn, secondLotIn, pathOf, nearestAs}
 use Rattle.path.proofs.Splits.{nearest-some}
-use Rattle.checker.specs.Steps.{noneLeft}
+use Rattle.steps.specs.Steps.{noneLeft}
 
 -- No walk goes deeper than one with a limit.
 pub no-deeper : (limit : Limit) (g : ℕ) → mostSplits limit ≤ mostSplits (upTo g)

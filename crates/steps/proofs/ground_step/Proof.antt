@@ -1,4 +1,4 @@
--- `checker::ground_step`: a condition out of range, a term that isn't false, or what follows a ground.
+-- `steps::ground_step`: a condition out of range, a term that isn't false, or what follows a ground.
 use borrow.Author.Needs.{needs}
 use borrow.Author.Tests.{not-true, not-false, ltb-true, ltb-false}
 use Prim.Native.Nat.{ℕ, _≤_}
@@ -10,9 +10,9 @@ use native.Mathlib.Omega.{arith}
 use Rattle.sheet.specs.Format.{conditionCount}
 use Rattle.refutation.specs.Refutation.{Split, conditionInRange}
 use Rattle.path.specs.Paths.{pathOf}
-use Rattle.checker.proofs.Stepping.{condition-out, not-ground, grounded, condition-none, condition-above, condition-within}
-use Rattle.checker.proofs.ground_step.Statement.{statement}
-use Rattle.checker.proofs.ground_step.Tie as tie
+use Rattle.steps.proofs.Stepping.{condition-out, not-ground, grounded, condition-none, condition-above, condition-within}
+use Rattle.steps.proofs.ground_step.Statement.{statement}
+use Rattle.steps.proofs.ground_step.Tie as tie
 
 -- ---- the places
 

@@ -1,11 +1,11 @@
--- `checker::most_splits`: without a limit, and with one.
+-- `steps::most_splits`: without a limit, and with one.
 use borrow.Author.Needs.{needs}
 use mathlib.Core.Path.{sym, ap}
 use native.Mathlib.Omega.{arith}
 use Rattle.refutation.specs.Refutation.{mostSplits}
 use Rattle.limit.proofs.Range.{limit-of}
-use Rattle.checker.proofs.most_splits.Statement.{statement}
-use Rattle.checker.proofs.most_splits.Tie as tie
+use Rattle.steps.proofs.most_splits.Statement.{statement}
+use Rattle.steps.proofs.most_splits.Tie as tie
 
 returns : tie.Need-returns
 returns c = search needs

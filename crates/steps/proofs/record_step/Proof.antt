@@ -1,4 +1,4 @@
--- `checker::record_step`: by the kind of the record.
+-- `steps::record_step`: by the kind of the record.
 use borrow.Author.Needs.{needs}
 use Prim.Native.Nat.{ℕ, _≤_}
 use mathlib.Core.List.{List}
@@ -14,9 +14,9 @@ use Rattle.store.specs.Records.{NodeRecord, recordAt}
 use Rattle.store.specs.Code.{recordOf}
 use Rattle.refutation.specs.Refutation.{Split, walkClique, walkRecord}
 use Rattle.path.specs.Paths.{pathOf}
-use Rattle.checker.specs.Steps.{Rest, WalkRest}
-use Rattle.checker.proofs.record_step.Statement.{statement}
-use Rattle.checker.proofs.record_step.Tie as tie
+use Rattle.steps.specs.Steps.{Rest, WalkRest}
+use Rattle.steps.proofs.record_step.Statement.{statement}
+use Rattle.steps.proofs.record_step.Tie as tie
 
 -- ---- the places
 

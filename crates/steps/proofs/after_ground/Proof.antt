@@ -1,4 +1,4 @@
--- `checker::after_ground`: the nearest split still in its same branch, its next, and its turn.
+-- `steps::after_ground`: the nearest split still in its same branch, its next, and its turn.
 use borrow.Author.Needs.{needs}
 use Prim.Native.Nat.{ℕ, _+_, _-_}
 use mathlib.Core.List.{List}
@@ -9,9 +9,9 @@ use Rattle.refutation.specs.Refutation.{nearest}
 use Rattle.path.specs.Paths.{splitIn, pathOf, nearestAs}
 use Rattle.levels.specs.Levels.{Walkable}
 use Rattle.levels.proofs.Leveling.{walkable-less}
-use Rattle.checker.proofs.Stepping.{ends-there, left-over, wrong-next, turns}
-use Rattle.checker.proofs.after_ground.Statement.{statement}
-use Rattle.checker.proofs.after_ground.Tie as tie
+use Rattle.steps.proofs.Stepping.{ends-there, left-over, wrong-next, turns}
+use Rattle.steps.proofs.after_ground.Statement.{statement}
+use Rattle.steps.proofs.after_ground.Tie as tie
 
 -- ---- the places
 

@@ -1,4 +1,4 @@
--- `checker::clique_step`: no limit, no clique, or what follows one.
+-- `steps::clique_step`: no limit, no clique, or what follows one.
 use borrow.Author.Needs.{needs}
 use borrow.Author.Tests.{not-true, not-false}
 use Prim.Native.Nat.{ℕ, _<_}
@@ -7,9 +7,9 @@ use mathlib.Core.Path.{sym, _∙_}
 use native.Mathlib.Omega.{arith}
 use Rattle.refutation.specs.Refutation.{Split}
 use Rattle.path.specs.Paths.{pathOf}
-use Rattle.checker.proofs.Stepping.{unlimited-clique, not-clique, cliqued}
-use Rattle.checker.proofs.clique_step.Statement.{statement}
-use Rattle.checker.proofs.clique_step.Tie as tie
+use Rattle.steps.proofs.Stepping.{unlimited-clique, not-clique, cliqued}
+use Rattle.steps.proofs.clique_step.Statement.{statement}
+use Rattle.steps.proofs.clique_step.Tie as tie
 
 -- ---- the places
 

@@ -1,4 +1,4 @@
--- `checker::split_step`: lots out of range, too many splits above, or the split on top.
+-- `steps::split_step`: lots out of range, too many splits above, or the split on top.
 use borrow.Author.Needs.{needs}
 use borrow.Author.Tests.{not-true, not-false}
 use Prim.Native.Nat.{ℕ, _≤_, _<_}
@@ -15,9 +15,9 @@ use Rattle.refutation.specs.Refutation as refutation
 use Rattle.refutation.specs.Refutation.{mostSplits}
 use Rattle.path.specs.Paths.{pathOf}
 use Rattle.path.proofs.Splits.{path-length}
-use Rattle.checker.proofs.Stepping.{first-out, second-out, too-deep, pushed}
-use Rattle.checker.proofs.split_step.Statement.{statement}
-use Rattle.checker.proofs.split_step.Tie as tie
+use Rattle.steps.proofs.Stepping.{first-out, second-out, too-deep, pushed}
+use Rattle.steps.proofs.split_step.Statement.{statement}
+use Rattle.steps.proofs.split_step.Tie as tie
 
 -- ---- the places
 

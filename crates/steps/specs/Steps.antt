@@ -13,8 +13,8 @@ use Rattle.store.specs.Records.{NodeRecord}
 use Rattle.refutation.specs.Refutation.{Split}
 use Rattle.path.specs.Paths.{splitLength, pathOf}
 use Rattle.levels.specs.Levels.{Walkable}
-use Rattle.checker.specs.declared.Step.{Step}
-use Rattle.checker.specs.declared.Step.the-variants.{On, Passes, Refuses}
+use Rattle.steps.specs.declared.Step.{Step}
+use Rattle.steps.specs.declared.Step.the-variants.{On, Passes, Refuses}
 
 -- The sheet is accepted, and these are its counts of lots and conditions.
 pub record Counted (s : List ℕ) (counts : Header) : Type 0 where
