@@ -1,8 +1,9 @@
--- What a split says of its apart branch, whichever limit there is: on a term it goes on in the condition, on a pair of classes after the pair.
+-- What a node is under a limit, by what it is without one, and what a split says of its apart branch, whichever limit there is: on a term it goes on in the
+-- condition, on a pair of classes after the pair.
 use Prim.Native.Nat.{ℕ, zero, suc}
 use mathlib.Core.List.{List, _∷_}
 use mathlib.Core.Logic.{_≢_}
-use mathlib.Core.Path.{_≡_, refl, sym, _∙_}
+use mathlib.Core.Path.{_≡_, refl, sym, subst, _∙_}
 use native.Mathlib.Omega.{arith}
 use borrow.Author.Tests.{eq-eqb, ne-eqb}
 use Rattle.sheet.specs.Conditions.{apart, conditionAt, conditions}
@@ -15,10 +16,15 @@ use Rattle.limit.proofs.Resumes.{under-takes, pair-resumes}
 use Rattle.node.specs.declared.Split as pair
 use Rattle.node.specs.declared.Untaken.{Untaken}
 use Rattle.node.specs.declared.Untaken.the-variants.{Met, Split, Clique}
-use Rattle.scan.specs.Place.{ResumesWithin, ResumesPair}
+use Rattle.scan.specs.declared.Place.{Place}
+use Rattle.scan.specs.Place.{ResumesWithin, ResumesPair, Stands}
 use Rattle.node.specs.Found.{untakenAs, PairSplit, SplitLeaves, PairLeaves}
 use Rattle.node.proofs.Resuming.{none-met}
 use Rattle.scan.proofs.Settling.{taken-number}
+
+-- A node that stands at a place that is known stands there.
+pub stands : (limit : Limit) (n : ℕ) (s : List ℕ) (ds : Decisions) {p q : Place} → p ≡ q → Stands limit n s p ds → Stands limit n s q ds
+stands limit n s ds e w = subst (λ (p : Place). Stands limit n s p ds) e w
 
 -- ---- a condition is taken
 

@@ -1,4 +1,4 @@
-// One node of the search: the condition that it takes, and what it is.
+// One node of the search: what it is, by the condition that it takes, or by a limit where it takes none.
 ghost use mathlib.Core.Path.{_≡_};
 ghost use Prim.Native.Nat.{ℕ, _-_, _≤_, _<_};
 ghost use mathlib.Core.List.{List};

@@ -1,21 +1,12 @@
 -- `node::node_at`: the terms from the place on decide what the node is; nowhere, and after a pair of classes, it is met.
 use borrow.Author.Needs.{needs}
-use Prim.Native.Nat.{ℕ}
-use mathlib.Core.List.{List}
-use mathlib.Core.Path.{_≡_, subst}
-use Rattle.equality.specs.Node.{Decisions}
-use Rattle.limit.specs.Meaning.{Limit}
+use mathlib.Core.Path.{subst}
 use Rattle.marks.proofs.Bytes.{outside-none}
-use Rattle.scan.specs.declared.Place.{Place}
-use Rattle.scan.specs.Place.{Stands, PlaceWithin}
-use Rattle.node.proofs.Leaving.{pair-none}
+use Rattle.scan.specs.Place.{PlaceWithin}
+use Rattle.node.proofs.Leaving.{stands, pair-none}
 use Rattle.node.proofs.Resuming.{none-met}
 use Rattle.node.proofs.node_at.Statement.{statement}
 use Rattle.node.proofs.node_at.Tie as tie
-
--- A node that stands at a place that is known stands there.
-stands : (limit : Limit) (n : ℕ) (s : List ℕ) (ds : Decisions) {p q : Place} → p ≡ q → Stands limit n s p ds → Stands limit n s q ds
-stands limit n s ds e w = subst (λ (p : Place). Stands limit n s p ds) e w
 
 enum-known-place : tie.Need-enum-known-place
 enum-known-place c = search needs

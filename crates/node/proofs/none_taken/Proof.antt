@@ -7,22 +7,16 @@ use native.Mathlib.Numerals.{add-one}
 use native.Mathlib.Omega.{arith}
 use Rattle.sheet.specs.Conditions.{Term, conditions}
 use Rattle.equality.specs.Node.{Decisions, Taken, noCondition, takes, taken}
-use Rattle.limit.specs.Meaning.{Limit}
 use Rattle.limit.specs.Rule.{noneTaken}
 use Rattle.limit.specs.Scan.{limitOf}
 use Rattle.limit.proofs.Resumes.{scan-start}
 use Rattle.classes.specs.Pairs.{Represents}
 use Rattle.marks.proofs.Bytes.{outside-none}
-use Rattle.scan.specs.declared.Place.{Place}
 use Rattle.scan.specs.Place.{Stands, Rises}
 use Rattle.node.specs.Found.{untakenAs, PairLeaves}
-use Rattle.node.proofs.Leaving.{limited-node, no-limit-met, resumes-limited}
+use Rattle.node.proofs.Leaving.{stands, limited-node, no-limit-met, resumes-limited}
 use Rattle.node.proofs.none_taken.Statement.{statement}
 use Rattle.node.proofs.none_taken.Tie as tie
-
--- A node that stands at a place that is known stands there.
-stands : (limit : Limit) (n : ℕ) (s : List ℕ) (ds : Decisions) {p q : Place} → p ≡ q → Stands limit n s p ds → Stands limit n s q ds
-stands limit n s ds e w = subst (λ (p : Place). Stands limit n s p ds) e w
 
 -- Without a limit;
 returns : tie.Need-returns
