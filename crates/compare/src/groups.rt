@@ -2,11 +2,10 @@
 use crate::examine;
 use crate::examine::Counts;
 use crate::say;
+use generator::generate;
+use generator::line;
 use libc::STDOUT_FILENO;
 use second_solver::Answer;
-use second_solver::generate;
-use second_solver::line;
-use second_solver::raw;
 use trials::tally::Damage;
 
 // How many sheets are generated for a group, and the generator's first state.

@@ -14,8 +14,8 @@
 // difference is counted wherever two answers differ. tests/make_compare.py writes the input, and the output too: by its own search, its own checker and its
 // own second solver.
 //
-// The second solver, the second statement of the checks and the generator are the crate `second_solver`. The services' answers as numbers, what is damaged and
-// what is counted are the crate `trials`.
+// The second solver and the second statement of the checks are the crate `second_solver`, the generator is `generator`. The services' answers as numbers, what is
+// damaged and what is counted are the crate `trials`.
 mod examine; // examine.rt: one sheet, before all solvers and services
 mod groups; // groups.rt: the groups of sheets
 mod say; // say.rt: the lines of the output

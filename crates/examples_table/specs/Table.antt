@@ -16,8 +16,8 @@ use Rattle.store.specs.Records.{recordLength, encode, ofKind, decode, recordsOf
 use Rattle.outcome.specs.Nodes.{records}
 use Rattle.outcome.specs.Outcome.{Outcome, resultOf, searchOutcome, searchOutcomeWith}
 use Rattle.refutation.specs.Refutation.{groundFails, nearest, walkFrom, check10, walkVerdict, listVerdictUnder, checkAnswer, checkAnswerUnder}
-use Rattle.text.specs.Lines.{digits, decimal, line}
-use Rattle.text.specs.Program.{headerLine, recordLine, recordLines, refusedLine, metLine, cannotLine, resultText, printed, printedWith}
+use Rattle.lines.specs.Lines.{digits, decimal, line, headerLine, recordLine, recordLines, refusedLine, metLine, cannotLine}
+use Rattle.text.specs.Program.{resultText, printed, printedWith}
 use Rattle.examples_table.specs.Sheets.{Row, starredRows, withdrawnRows, printedC, printedWithdrawn, sheetA, sheetB, sheetC, sheetD, sheetEmpty, sheetOneHead, sheetSameSame, sheetApartSame, sheetWithdrawn, sheetStillCannot, sheetVacantFirst, sheetTwiceFirst, sheetNotBlanked, sheetNearlyVacant, sheetVacantOnly, rowA, rowB, rowC, rowFull, rowD, rowEmpty, rowOneHead, rowSameSame, rowApartSame, rowWithdrawn, rowStillCannot, rowVacantFirst}
 use Rattle.examples_table.specs.ZeroSheets.{zeroRows, chainedRows, printedZero, zeroSame, zeroApart, zeroBoth, zeroMet, rowZeroSame, rowZeroApart, rowZeroBoth, rowZeroMet, rowChained}
 

@@ -5,7 +5,6 @@
 // groups can be given numbers of which that of lot 0 is 0.
 //
 // A way is a group for each name, the first one's 0, each other at most one more than the highest before it: so no way comes twice.
-use crate::raw;
 
 // The most lots that are parted, and in how many ways.
 const MOST_LOTS: usize = 6;

@@ -1,7 +1,6 @@
 // Checks 1 to 8 and 17, stated a second time: from document 01's table and document 02's second and fifth requests, over the bytes as they stand. It has
 // nothing in common with the reader.
 use crate::Answer;
-use crate::raw;
 
 // The check that refuses a sheet, and the place that it gives; check 0 where none does.
 struct Refusal {

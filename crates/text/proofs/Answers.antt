@@ -12,7 +12,8 @@ use Rattle.sheet.specs.declared.Verdict.the-variants.{Passes, Refuses}
 use Rattle.sheet.specs.Answers.{Answer, refused, answered}
 use Rattle.equality.specs.Search.{Tree, isMet, nodeCount}
 use Rattle.outcome.specs.Outcome.{Result, refusedResult, fullResult, metResult, cannotResult, metOrCannot, fullOr, resultOf, resultAnswer}
-use Rattle.text.specs.Program.{refusedLine, resultText}
+use Rattle.lines.specs.Lines.{refusedLine}
+use Rattle.text.specs.Program.{resultText}
 
 -- An answer's parts: 0 for a refusal and one more than its first value for any other, and two numbers.
 abbrev kindOf : Answer → ℕ

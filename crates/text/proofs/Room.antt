@@ -19,11 +19,11 @@ use Rattle.outcome.specs.Nodes.{records}
 use Rattle.outcome.specs.Outcome.{metResult, cannotResult}
 use Rattle.outcome.proofs.Fitting.{records-count, search-fits}
 use Rattle.outcome.proofs.Grouping.{grouping-length, grouping-number}
-use Rattle.text.specs.Lines.{decimal, line, lotsWord, conditionsWord, termsWord, splitWord, groundWord, metWord, cannotWord, refusedWord}
-use Rattle.text.specs.Program.{programCapacity, headerLine, recordLine, recordLines, refusedLine, metLine, cannotLine, resultText}
+use Rattle.lines.specs.Lines.{decimal, line, lotsWord, conditionsWord, termsWord, splitWord, groundWord, metWord, cannotWord, refusedWord, headerLine, recordLine, recordLines, refusedLine, metLine, cannotLine}
+use Rattle.text.specs.Program.{programCapacity, resultText}
 use Rattle.buffers.specs.Written.{WroteFirst}
 use Rattle.text.specs.Code.{textRoom}
-use Rattle.text.proofs.Digits.{decimal-most}
+use Rattle.lines.proofs.Digits.{decimal-most}
 
 -- ---- a line
 

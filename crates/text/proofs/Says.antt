@@ -24,7 +24,8 @@ use Rattle.outcome.proofs.Fitting.{records-count, search-fits}
 use Rattle.store.proofs.Codec.{records-first}
 use Rattle.outcome.proofs.Grouping.{grouping-length}
 use Rattle.text.specs.Program.{mostInput, printed, printedWith, programCapacity, resultText}
-use Rattle.text.specs.Code.{firstRecords, metText, cannotText}
+use Rattle.lines.specs.Code.{firstRecords}
+use Rattle.text.specs.Code.{metText, cannotText}
 
 module _ (s : List ℕ) (ok : Accepted s) (few : nodeCount (searchTree (conditions s)) ≤ mostNodes) (store : List ℕ) where
   -- The store as the search leaves it,

@@ -11,7 +11,8 @@ use Rattle.sheet.specs.Answers.{refused, answered}
 use Rattle.sheet.proofs.Accepted.{header-whole, sound}
 use Rattle.equality.specs.Search.{searchTree}
 use Rattle.outcome.specs.Outcome.{Result, Outcome, metResult, cannotResult, resultOf, outcomeOf, searchOutcome, searchOutcomeWith}
-use Rattle.text.specs.Program.{programCapacity, refusedLine, resultText, printed}
+use Rattle.lines.specs.Lines.{refusedLine}
+use Rattle.text.specs.Program.{programCapacity, resultText, printed}
 use Rattle.text.specs.Code.{Printable, Lent, metText, cannotText, textRoom}
 use Rattle.text.proofs.Room.{met-most, cannot-most}
 use Rattle.text.proofs.Says.{met-text-says, cannot-text-says, program-result, printed-short}

@@ -1,16 +1,13 @@
 -- For the contracts of the code; this file states nothing of document 01.
 use Prim.Native.Nat.{ℕ, _+_, _*_, _≤_}
-use mathlib.Core.List.{List, _++_, map}
+use mathlib.Core.List.{List, _++_}
 use mathlib.Core.Path.{_≡_}
 use lib.ListN.{length, take}
 use Rattle.sheet.specs.Format.{mostLots, headerLength, lotCount}
-use Rattle.sheet.specs.Conditions.{countUp}
-use Rattle.store.specs.Records.{NodeRecord, recordAt, recordLength, capacity}
-use Rattle.text.specs.Program.{mostInput, programCapacity, headerLine, recordLines, metLine, cannotLine}
-
--- The first `count` records of a store.
-abbrev pub firstRecords : List ℕ → ℕ → List NodeRecord
-firstRecords store count = map (recordAt store) (countUp count 1)
+use Rattle.store.specs.Records.{recordLength, capacity}
+use Rattle.lines.specs.Lines.{headerLine, recordLines, metLine, cannotLine}
+use Rattle.lines.specs.Code.{firstRecords}
+use Rattle.text.specs.Program.{mostInput, programCapacity}
 
 -- The text of a search that met the sheet, and of one that could not, from what it left in the grouping and in the store.
 abbrev pub metText : List ℕ → ℕ → List ℕ → List ℕ → List ℕ

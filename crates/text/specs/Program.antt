@@ -1,15 +1,14 @@
 -- The bytes that the printing program writes, from those that it reads (document 01, "The printing program").
 use Prim.Native.Nat.{ℕ}
-use mathlib.Core.List.{List, [], _∷_, _++_, map}
+use mathlib.Core.List.{List, _++_}
 use lib.ListN.{take}
-use Rattle.sheet.specs.Format.{lowestLot, lotCount, conditionCount, recordCount}
+use Rattle.sheet.specs.Format.{lowestLot, lotCount}
 use Rattle.sheet.specs.Conditions.{conditions}
 use Rattle.sheet.specs.Checks.{sheetVerdictWith}
 use Rattle.equality.specs.Search.{searchTree, nodeCount, metDecisions, groupingBytes}
-use Rattle.store.specs.Records.{NodeRecord, splitRecord, groundRecord, metRecord, cliqueRecord, noRecord}
 use Rattle.outcome.specs.Nodes.{records}
 use Rattle.outcome.specs.Outcome.{Result, refusedResult, fullResult, metResult, cannotResult, resultOf}
-use Rattle.text.specs.Lines.{decimal, line, lotsWord, conditionsWord, termsWord, splitWord, groundWord, metWord, cannotWord, refusedWord}
+use Rattle.lines.specs.Lines.{headerLine, recordLines, refusedLine, metLine, cannotLine}
 
 -- "It reads a sheet from standard input, at most 8,711 bytes (one more than the longest sheet), with 7,000 store records."
 abbrev pub mostInput : ℕ
@@ -17,37 +16,6 @@ mostInput = 8711
 
 abbrev pub programCapacity : ℕ
 programCapacity = 7000
-
--- "First line: lots, conditions and terms, each word followed by its number n, m or k."
-unfoldable pub headerLine : List ℕ → List ℕ
-headerLine s =
-    line lotsWord
-    (decimal (lotCount s) ∷ conditionsWord ∷ decimal (conditionCount s) ∷ termsWord ∷ decimal (recordCount s) ∷ [])
-
--- "a line per split (split, two lots, next) and per ground (ground, condition)"; the met record has no line of its own, and of a
--- clique there is none to print: the program searches without a limit.
-unfoldable pub recordLine : NodeRecord → List ℕ
-recordLine (splitRecord a b next) = line splitWord (decimal a ∷ decimal b ∷ decimal next ∷ [])
-recordLine (groundRecord c) = line groundWord (decimal c ∷ [])
-recordLine metRecord = []
-recordLine cliqueRecord = []
-recordLine noRecord = []
-
--- "Then, in record order"
-unfoldable pub recordLines : List NodeRecord → List ℕ
-recordLines [] = []
-recordLines (r ∷ rs) = recordLine r ++ recordLines rs
-
--- "A refusal prints only refused, number, place."
-unfoldable pub refusedLine : ℕ → ℕ → List ℕ
-refusedLine check place = line refusedWord (decimal check ∷ decimal place ∷ [])
-
--- "then met and the n grouping bytes, or cannot and c"
-unfoldable pub metLine : List ℕ → List ℕ
-metLine grouping = line metWord (map decimal grouping)
-
-unfoldable pub cannotLine : ℕ → List ℕ
-cannotLine count = line cannotWord (decimal count ∷ [])
 
 -- A search's text, by what it came to.
 unfoldable pub resultText : List ℕ → Result → List ℕ

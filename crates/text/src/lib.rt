@@ -1,6 +1,4 @@
 // The printing program's work: from the bytes that it reads to the bytes that it writes.
-mod put; // put.rt: bytes, words and numbers
-mod lines; // lines.rt: the lines
 mod texts; // texts.rt: the whole texts
 
 ghost use Prim.Native.Nat.{_≤_};

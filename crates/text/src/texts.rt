@@ -2,14 +2,14 @@
 ghost use Prim.Native.Nat.{_≤_};
 ghost use lib.ListN.{length};
 ghost use Rattle.sheet.specs.Format.{lotCount};
-ghost use Rattle.text.specs.Program.{refusedLine};
+ghost use Rattle.lines.specs.Lines.{refusedLine};
 ghost use Rattle.buffers.specs.Written.{WroteFirst};
 ghost use Rattle.text.specs.Code.{Printable, metText, cannotText, textRoom};
-use crate::lines::header_line;
-use crate::lines::met_line;
-use crate::lines::number_line;
-use crate::lines::record_lines;
-use crate::lines::refused_line;
+use lines::header_line;
+use lines::met_line;
+use lines::number_line;
+use lines::record_lines;
+use lines::refused_line;
 
 // The text of a search that met the sheet, from what it left in the grouping and in the store.
 pub fn met_text(out: &mut [u8], sheet: &[u8], count: u32, grouping: &[u8], store: &[u8]) -> usize

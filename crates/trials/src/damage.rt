@@ -2,9 +2,8 @@
 // that the second solver can meet is wrong, and a sheet that is refused otherwise than the second statement of the table refuses it is a difference.
 use crate::services;
 use crate::tally::Damage;
-use second_solver::blanks;
+use generator::blanks;
 use second_solver::partitions;
-use second_solver::raw;
 use second_solver::table;
 
 // A byte changed: one more, or its lowest or its highest bit turned.

@@ -3,7 +3,6 @@
 ghost use Prim.Native.Nat.{_≤_};
 use crate::services;
 use second_solver::Answer;
-use second_solver::raw;
 
 // The bytes of the longest such list: 1,025 splits and 1,026 grounds.
 const ROOM: usize = 16408;

@@ -21,8 +21,8 @@ use Rattle.canonical.specs.Canonical.{termRecord, chainRecords, sheetRecords, h
 use Rattle.repack.specs.Repack.{check16, repackVerdictWith, repackAnswerWith, repackOutWith}
 use Rattle.repeats.specs.Repeats.{equalTerms, equalConditions, repeats, withoutRepeats, hasTerms, mergedConditions}
 use Rattle.merge.specs.Merge.{whichRefusedWith, check18, check19, mergeVerdictWith, mergeAnswerWith, mergeOutWith}
-use Rattle.text.specs.Lines.{digits, decimal, line}
-use Rattle.text.specs.Program.{headerLine, recordLine, recordLines, refusedLine, metLine, cannotLine, resultText, printedWith}
+use Rattle.lines.specs.Lines.{digits, decimal, line, headerLine, recordLine, recordLines, refusedLine, metLine, cannotLine}
+use Rattle.text.specs.Program.{resultText, printedWith}
 
 -- Two vacant records around "same 1 0", and around "apart 1 1".
 abbrev pub named : List ℕ

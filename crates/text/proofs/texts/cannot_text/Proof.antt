@@ -4,8 +4,9 @@ use mathlib.Core.List.{List, _++_}
 use mathlib.Core.Path.{_∙_}
 use native.Mathlib.Omega.{arith}
 use lib.ListN.{length}
-use Rattle.text.specs.Program.{headerLine, recordLines, cannotLine}
-use Rattle.text.specs.Code.{firstRecords, cannotText}
+use Rattle.lines.specs.Lines.{headerLine, recordLines, cannotLine}
+use Rattle.lines.specs.Code.{firstRecords}
+use Rattle.text.specs.Code.{cannotText}
 use Rattle.buffers.proofs.Writing.{Writing, start-three, room-left, room, then, last, wrote-first}
 use borrow.Author.Needs.{needs}
 use Rattle.text.proofs.texts.cannot_text.Statement.{statement}

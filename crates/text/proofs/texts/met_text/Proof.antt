@@ -6,8 +6,9 @@ use native.Mathlib.Omega.{arith}
 use lib.ListN.{length, take}
 use Rattle.sheet.specs.Format.{lotCount}
 use Rattle.sheet.specs.declared.Header.{Header}
-use Rattle.text.specs.Program.{headerLine, recordLines, metLine}
-use Rattle.text.specs.Code.{firstRecords, metText}
+use Rattle.lines.specs.Lines.{headerLine, recordLines, metLine}
+use Rattle.lines.specs.Code.{firstRecords}
+use Rattle.text.specs.Code.{metText}
 use Rattle.buffers.proofs.Writing.{Writing, start-three, room-left, room, then, last, wrote-first}
 use borrow.Author.Needs.{needs}
 use Rattle.text.proofs.texts.met_text.Statement.{statement}
