@@ -16,8 +16,8 @@ use Prim.Native.Nat.{ℕ}
 use mathlib.Core.List.{List, [], ◌∷◌}
 use lib.ListN.{length}
 use seplogic.Ra.Ura.{Ura}
-use seplogic.Ra.TreeShare.PosShare
-use seplogic.Ra.TreeShare.{full_share}
+
+use base.Fraction.{full_share, left, right}
 use mir.Syntax.{Lifetime}
 use mir.Val.{Val, vptr}
 use base.Logic.{ent, sep, ex, SProp, emp, via, emp∗, mono_l, comm∗}
@@ -78,19 +78,19 @@ module _ (R : RattleType) (κ : Lft) (q : Share) (ν b o : ℕ) where
   module _ {M : Type 1} {𝓤 : Ura M} (𝓛 : Logic 𝓤) where
     open 𝓛 use {H, A}
 
-    pub lies_in : (h : R.Denot) (vs : List Val) → ent 𝓤 (sep 𝓤 (sem 𝓛 (cell_at full_share R.mir vs b o)) (sem 𝓛 (R.own h vs))) (sem 𝓛 (part_at R full_share h b o))
+    pub lies_in : (h : R.Denot) (vs : List Val) → ent 𝓤 (sep 𝓤 (sem 𝓛 (cell_at full_share R.mir vs b o)) (sem 𝓛 (R.own_val h vs))) (sem 𝓛 (part_at R full_share h b o))
     unfolding part_of
-    lies_in h vs = qed 𝓛 (‵ (cell_at full_share R.mir vs b o) ∷ ‵ (R.own h vs) ∷ []) ∵ fjoin ! $ fpack ! (List Val) (λ us. fsep (cell_at full_share R.mir us b o) (R.own h us)) vs $ done !
+    lies_in h vs = qed 𝓛 (‵ (cell_at full_share R.mir vs b o) ∷ ‵ (R.own_val h vs) ∷ []) ∵ fjoin ! $ fpack ! (List Val) (λ us. fsep (cell_at full_share R.mir us b o) (R.own_val h us)) vs $ done !
 
-    pub lies_out : (h : R.Denot) → ent 𝓤 (sem 𝓛 (part_at R full_share h b o)) (ex 𝓤 (λ (vs : List Val). sep 𝓤 (sem 𝓛 (cell_at full_share R.mir vs b o)) (sem 𝓛 (R.own h vs))))
+    pub lies_out : (h : R.Denot) → ent 𝓤 (sem 𝓛 (part_at R full_share h b o)) (ex 𝓤 (λ (vs : List Val). sep 𝓤 (sem 𝓛 (cell_at full_share R.mir vs b o)) (sem 𝓛 (R.own_val h vs))))
     unfolding part_of
-    lies_out h = qed 𝓛 (‵ (part_at R full_share h b o) ∷ []) ∵ fpick ! (λ vs. fsplit ! $ show ! (λ (us : List Val). sep 𝓤 (sem 𝓛 (cell_at full_share R.mir us b o)) (sem 𝓛 (R.own h us))) vs $ frame ! $ done !)
+    lies_out h = qed 𝓛 (‵ (part_at R full_share h b o) ∷ []) ∵ fpick ! (λ vs. fsplit ! $ show ! (λ (us : List Val). sep 𝓤 (sem 𝓛 (cell_at full_share R.mir us b o)) (sem 𝓛 (R.own_val h us))) vs $ frame ! $ done !)
 
     abbrev pub LenderHas : GName → SProp 𝓤
-    LenderHas δ = sep 𝓤 (Rest 𝓛 ν (PosShare.left q)) (sem 𝓛 (flent (ν ∷ κ) (Body (mem R) b o δ)))
+    LenderHas δ = sep 𝓤 (Rest 𝓛 ν (left q)) (sem 𝓛 (flent (ν ∷ κ) (Body (mem R) b o δ)))
 
     abbrev Tokens : SProp 𝓤
-    Tokens = sep 𝓤 (A.lft (ν ∷ κ) (PosShare.left q)) (sep 𝓤 (A.lft κ (PosShare.right q)) (sem 𝓛 ftrue))
+    Tokens = sep 𝓤 (A.lft (ν ∷ κ) (left q)) (sep 𝓤 (A.lft κ (right q)) (sem 𝓛 ftrue))
 
     abbrev Lent : Lifetime → R.Denot → GName → SProp 𝓤
     Lent ℓ h δ = sep 𝓤 (sep 𝓤 (sem 𝓛 ((MutRef ℓ (ν ∷ κ) R).own_val (record { ref_ptr = (b, o); ghost_name = δ; now = h }) (vptr b o ∷ []))) Tokens) (LenderHas δ)
@@ -100,17 +100,17 @@ module _ (R : RattleType) (κ : Lft) (q : Share) (ν b o : ℕ) where
         qed 𝓛 (‵ (part_at R full_share h b o) ∷ ‵ (flft (ν ∷ []) full_share) ∷ ‵ (flft κ q) ∷ ‵ ftrue ∷ []) ∵ updating ! $
         use1 𝓛 (later (some (λ (δ : GName). ‵ ((MutRef ℓ (ν ∷ κ) R).own_val (record { ref_ptr = (b, o); ghost_name = δ; now = h }) (vptr b o ∷ [])) ⊛ ‵ (flent (ν ∷ κ) (Body (mem R) b o δ))))) (lends_ref 𝓛 R ℓ (ν ∷ κ) h b o) $ await ! tt $ pick ! (λ δ. split ! $
         -- [the reference; the lender's part; ν's token; κ's; true]
-        move ! (3 ∷ []) $ use1 𝓛 (‵ (flft κ (PosShare.left q)) ⊛ ‵ (flft κ (PosShare.right q))) (𝓛.lfts.lft_split κ q) $ split ! $
-        move ! (4 ∷ 0 ∷ []) $ use2 𝓛 (‵ (flft (ν ∷ κ) (PosShare.left q)) ⊛ raw (Rest 𝓛 ν (PosShare.left q))) (within_token 𝓛 ν κ (PosShare.left q)) $ split ! $
+        move ! (3 ∷ []) $ use1 𝓛 (‵ (flft κ (left q)) ⊛ ‵ (flft κ (right q))) (𝓛.lfts.lft_split κ q) $ split ! $
+        move ! (4 ∷ 0 ∷ []) $ use2 𝓛 (‵ (flft (ν ∷ κ) (left q)) ⊛ raw (Rest 𝓛 ν (left q))) (within_token 𝓛 ν κ (left q)) $ split ! $
         -- [the token of ν ∷ κ; the rest of ν's; κ's other half; the reference; the lender's part; true]
         at_once ! $ show ! (Lent ℓ h) δ $ move ! (2 ∷ 5 ∷ []) $ join ! $ move ! (1 ∷ 0 ∷ []) $ join ! $ move ! (2 ∷ 0 ∷ []) $ join ! $ frame ! $ frame ! $ done !)
 
     pub local_back : (δ : GName) (h' : R.Denot) → ent 𝓤 (sep 𝓤 Tokens (sep 𝓤 (LenderHas δ) (A.res δ (R.coded.code h')))) (H.⇛ (sep 𝓤 (sem 𝓛 (part_at R full_share h' b o)) (A.lft κ q)))
     local_back δ h' =
-        qed 𝓛 ((‵ (flft (ν ∷ κ) (PosShare.left q)) ⊛ ‵ (flft κ (PosShare.right q)) ⊛ ‵ ftrue) ∷ (raw (Rest 𝓛 ν (PosShare.left q)) ⊛ ‵ (flent (ν ∷ κ) (Body (mem R) b o δ))) ∷ ‵ (fres δ (R.coded.code h')) ∷ []) ∵ updating ! $
+        qed 𝓛 ((‵ (flft (ν ∷ κ) (left q)) ⊛ ‵ (flft κ (right q)) ⊛ ‵ ftrue) ∷ (raw (Rest 𝓛 ν (left q)) ⊛ ‵ (flent (ν ∷ κ) (Body (mem R) b o δ))) ∷ ‵ (fres δ (R.coded.code h')) ∷ []) ∵ updating ! $
         split ! $ move ! (2 ∷ []) $ split ! $ move ! (2 ∷ 0 ∷ []) $
         -- [the token of ν ∷ κ; the rest of ν's; the lender's part; κ's other half and true; the last value]
-        use2 𝓛 (later (‵ (fdead (ν ∷ κ)) ⊛ ‵ (flft κ (PosShare.left q)))) (within_end 𝓛 ν κ (PosShare.left q)) $ await ! tt $ split ! $
+        use2 𝓛 (later (‵ (fdead (ν ∷ κ)) ⊛ ‵ (flft κ (left q)))) (within_end 𝓛 ν κ (left q)) $ await ! tt $ split ! $
         move ! (3 ∷ []) $ split ! $ move ! (3 ∷ 0 ∷ []) $ use2 𝓛 (‵ (flft κ q)) (𝓛.lfts.lft_join κ q) $
         -- [κ's token; true; dead; the lender's part; the last value]
         move ! (2 ∷ 3 ∷ 4 ∷ []) $ use3 𝓛 (later (‵ (part_at R full_share h' b o))) (ref_back 𝓛 R (ν ∷ κ) δ h' b o) $ await ! tt $ at_once ! $ frame ! $ move ! (1 ∷ []) $ drop ! $ done !

@@ -26,7 +26,7 @@ const LIMITED_PATH_LENGTH: usize = path::SPLIT_LENGTH * steps::LIMITED_MOST_SPLI
 const LIMITED_LEVELS_LENGTH: usize = steps::LIMITED_MOST_SPLITS + 1;
 
 // The checker's answer.
-#[derive(Drop)]
+#[derive(Clone, Copy)]
 pub enum CheckAnswer {
     Passed,
     Refused { check: u32, place: u32 },

@@ -11,20 +11,20 @@ use sheet::Lot;
 pub const ENTRIES: usize = sheet::LOT_ENTRIES;
 
 // The entry at a lot's number is the smallest lot of its class.
-#[derive(Drop)]
+#[derive(Clone, Copy)]
 pub struct Classes {
     pub lots: [u8; ENTRIES],
 }
 
 // A lot's smallest lot, and the map.
-#[derive(Drop)]
+#[derive(Clone, Copy)]
 pub struct Smallest {
     pub classes: Classes,
     pub lot: Lot,
 }
 
 // Whether the classes of two lots are marked apart, and the map.
-#[derive(Drop)]
+#[derive(Clone, Copy)]
 pub struct Marked {
     pub classes: Classes,
     pub marked: bool,

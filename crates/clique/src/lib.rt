@@ -12,14 +12,14 @@ ghost use Rattle.clique.specs.Found.{found_as, Listed};
 use sheet::Lot;
 
 // The first classes: how many there are, and the lot behind them.
-#[derive(Drop)]
+#[derive(Clone, Copy)]
 pub struct First {
     pub count: usize,
     pub end: usize,
 }
 
 // The first pair of classes that aren't marked apart, the lower first; or that there is none, and they are a clique.
-#[derive(Drop)]
+#[derive(Clone, Copy)]
 pub enum Found {
     Open(Lot, Lot),
     Clique,

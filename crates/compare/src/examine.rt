@@ -4,7 +4,7 @@ use trials::tally::{Damage, Tally};
 use trials::{damage, services};
 
 // The counts of a run: of the group, of damaged lists, of damaged sheets, of sheets with a condition withdrawn.
-#[derive(Drop)]
+#[derive(Clone, Copy)]
 pub struct Counts {
     pub tally: Tally,
     pub lists: Damage,

@@ -115,7 +115,7 @@ fn wanted(text: &[u8], kind: u8) -> Answer {
 // The sheet that has its bytes in hexadecimal.
 fn examine_digits(digits: &[u8], wanted: Answer, counts: Counts) -> Counts {
     let mut sheet = [0u8; 2048];
-    let n = hex::decode(digits, &mut sheet);
+    let n = hexadecimal::decode(digits, &mut sheet);
     examine::examine(&sheet[..n], wanted, counts)
 }
 

@@ -11,7 +11,7 @@ ghost use Rattle.counter.specs.Answers.{counting_answer, CountMeans};
 use sheet::{Condition, Reading, Record};
 
 // The answer of a service that counts unmet conditions.
-#[derive(Drop)]
+#[derive(Clone, Copy)]
 pub enum Counting {
     Count(u32),
     Refused { check: u32, place: u32 },

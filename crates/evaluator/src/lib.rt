@@ -11,7 +11,7 @@ ghost use Rattle.evaluator.specs.Numbers.{number_at, Evaluable};
 use sheet::{Condition, Lot, Reading, Record, SAME, Term};
 
 // The evaluator's answer.
-#[derive(Drop)]
+#[derive(Clone, Copy)]
 pub enum Evaluation {
     AllMet,
     Unmet(Condition),

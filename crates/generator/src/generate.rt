@@ -3,7 +3,7 @@
 use crate::blanks;
 
 // The generator's state, and the records made so far.
-#[derive(Drop)]
+#[derive(Clone, Copy)]
 struct Made {
     state: u64,
     terms: u16,

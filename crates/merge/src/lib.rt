@@ -16,7 +16,7 @@ use repeats::kept;
 use sheet::Reading;
 
 // What a merge answers: the length that it wrote, or a refusal, on which nothing is written: of the first sheet, of the second, or of both together.
-#[derive(Drop)]
+#[derive(Clone, Copy)]
 pub enum MergeAnswer {
     Written { length: u32 },
     FirstRefused { check: u32, place: u32 },

@@ -20,7 +20,7 @@ use sheet::{Condition, Lot, Record, SAME, Term};
 
 // A split: its condition and its lots, and the record after the term that it splits on, where the apart branch resumes. A split on a pair of classes has
 // condition 0, and its apart branch resumes after the pair.
-#[derive(Drop)]
+#[derive(Clone, Copy)]
 pub struct Split {
     pub condition: Condition,
     pub a: Lot,
@@ -45,7 +45,7 @@ impl Split {
 }
 
 // What a node is by its conditions: met, where it takes none; otherwise a ground or a split of the condition taken.
-#[derive(Drop)]
+#[derive(Clone, Copy)]
 pub enum Node {
     Met,
     Ground(Condition),
@@ -53,7 +53,7 @@ pub enum Node {
 }
 
 // What a node is that takes none, under a limit or none: met, a split on a pair of classes, or a clique.
-#[derive(Drop)]
+#[derive(Clone, Copy)]
 pub enum Untaken {
     Met,
     Split(Split),

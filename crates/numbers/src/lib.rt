@@ -19,7 +19,7 @@ use writer::WriteAnswer;
 
 // An answer: the check that refused, 0 where none did, then the place, or the values. Behind the place a merge has the number of the sheet that was refused.
 #[repr(C)]
-#[derive(Drop)]
+#[derive(Clone, Copy)]
 pub struct Numbers {
     pub check: u32,
     pub first: u32,

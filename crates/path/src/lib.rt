@@ -18,7 +18,7 @@ const SAME_BRANCH: u32 = sheet::SAME as u32;
 const APART_BRANCH: u32 = sheet::APART as u32;
 
 // A split, as it is pushed; its lots as written in the record.
-#[derive(Drop)]
+#[derive(Clone, Copy)]
 pub struct Split {
     pub number: NodeNumber,
     pub next: NodeNumber,
@@ -27,7 +27,7 @@ pub struct Split {
 }
 
 // The lots of a split, and whether they are set same or set apart.
-#[derive(Drop)]
+#[derive(Clone, Copy)]
 pub struct Pair {
     pub same: bool,
     pub a: Lot,

@@ -38,7 +38,7 @@ fn print_case(cases: &[u8], at: usize) -> usize
 fn print_sheet(digits: &[u8]) {
     let mut sheet = [0u8; 2048];
     let mut out = [0u8; text::TEXT_ROOM];
-    let n = hex::decode(digits, &mut sheet);
+    let n = hexadecimal::decode(digits, &mut sheet);
     let len = text::print(&sheet[..n], &mut out);
     io::write_all(STDOUT_FILENO, &out[..len]);
 }

@@ -1,4 +1,6 @@
 // The sheet reader.
+#![tactic(auto)]
+
 mod checks; // checks.rt: checks 1 to 5 and 7
 mod once; // once.rt: checks 17 and 6, and with them check 7
 

@@ -32,7 +32,7 @@ pub fn skip(text: &[u8], at: usize) -> usize
 }
 
 // A number of a line, and the place after it.
-#[derive(Drop)]
+#[derive(Clone, Copy)]
 pub struct Number {
     pub value: u16,
     pub at: usize,

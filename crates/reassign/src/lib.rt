@@ -13,7 +13,7 @@ use counter::Counting;
 use sheet::{Condition, Lot, Reading, Record, Term};
 
 // How many of the conditions that name a lot are unmet before it gets another number, and how many after.
-#[derive(Drop)]
+#[derive(Clone, Copy)]
 pub struct Weight {
     before: u32,
     after: u32,

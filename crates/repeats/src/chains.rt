@@ -9,7 +9,7 @@ ghost use Rattle.repeats.specs.Inner.{digest_limit, digest_fields, equal_fields,
 use sheet::{Condition, Lot, Record, Term};
 
 // A condition that is looked for: the record of its first term, the digest of its terms, and their number.
-#[derive(Drop)]
+#[derive(Clone, Copy)]
 pub struct Sought {
     pub head: Record,
     pub digest: u32,

@@ -21,14 +21,14 @@ pub const ENTRIES: usize = 512;
 const NUMBERS: u32 = 512;
 
 // How far the entries of a sheet go, and how many terms their conditions have.
-#[derive(Drop)]
+#[derive(Clone, Copy)]
 pub struct Kept {
     pub upto: usize,
     pub terms: u16,
 }
 
 // How far the entries of the first sheet go, how far those of both, and how many terms their conditions have.
-#[derive(Drop)]
+#[derive(Clone, Copy)]
 pub struct Both {
     pub first: usize,
     pub upto: usize,

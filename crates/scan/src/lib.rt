@@ -12,7 +12,7 @@ use sheet::{Condition, Lot, Record, SAME};
 // Where a node is looked at: nobody knows yet, and the conditions are to be scanned; within the condition that it takes, from a record on; nowhere, since it
 // takes none; or after a pair of classes, where it takes none under a limit. (The apart branch of a split takes the split's condition, and no term of it up to
 // the split's is open any more. Where the split took none it takes none, and no pair of classes up to the split's is unmarked.)
-#[derive(Drop)]
+#[derive(Clone, Copy)]
 pub enum Place {
     Scan,
     Within(Condition, Record),

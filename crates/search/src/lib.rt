@@ -34,7 +34,7 @@ const LIMITED_MARKS_LENGTH: usize = LIMITED_PAIRS_LENGTH + marks::TABLE_LENGTH;
 const SHORT_GROUPING: u32 = 8;
 
 // The search's answer.
-#[derive(Drop)]
+#[derive(Clone, Copy)]
 pub enum SearchAnswer {
     Met { count: u32 },
     Cannot { count: u32 },

@@ -3,7 +3,7 @@
 use crate::Answer;
 
 // The check that refuses a sheet, and the place that it gives; check 0 where none does.
-#[derive(Drop)]
+#[derive(Clone, Copy)]
 struct Refusal {
     check: u32,
     place: u32,

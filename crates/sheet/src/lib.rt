@@ -1,4 +1,6 @@
 // Condition sheets: the format's words, and the reader of a chain.
+#![tactic(auto)]
+
 pub mod format; // format.rt: numbers, heads and records in a sheet's bytes
 pub mod chain; // chain.rt: the reader of a chain
 
@@ -8,13 +10,13 @@ ghost use Rattle.sheet.specs.Checks.{lot_in_range};
 
 // Lot numbers, condition numbers and record numbers each count from 1 on their own; none is ever used for another. Lot 0 may be named too; a sheet's number of
 // lots doesn't count it.
-#[derive(Drop)]
+#[derive(Clone, Copy)]
 pub struct Lot(pub u16);
 
-#[derive(Drop)]
+#[derive(Clone, Copy)]
 pub struct Condition(pub u16);
 
-#[derive(Drop)]
+#[derive(Clone, Copy)]
 pub struct Record(pub u16);
 
 // Lots 0 to 128: what is kept for each lot that there can be has so many entries.
@@ -26,7 +28,7 @@ pub const SAME: u8 = 1;
 pub const APART: u8 = 2;
 
 // A term record, without its spare byte.
-#[derive(Drop)]
+#[derive(Clone, Copy)]
 pub struct Term {
     pub sign: u8,
     pub a: Lot,
@@ -35,7 +37,7 @@ pub struct Term {
 }
 
 // The counts of a sheet's header.
-#[derive(Drop)]
+#[derive(Clone, Copy)]
 pub struct Header {
     pub lots: u16,
     pub conditions: u16,
@@ -43,14 +45,14 @@ pub struct Header {
 }
 
 // What a check of the table says: it passes, or it refuses with its number and the place that it gives.
-#[derive(Drop)]
+#[derive(Clone, Copy)]
 pub enum Verdict {
     Passes,
     Refuses(u32, u32),
 }
 
 // The reader's answer.
-#[derive(Drop)]
+#[derive(Clone, Copy)]
 pub enum Reading {
     Accepted {
         lots: u16,

@@ -17,7 +17,7 @@ use sheet::{Condition, Header};
 use store::{NodeNumber, NodeRecord};
 
 // What a record leaves to the walk: it goes on with so many splits above the following record, the list passes, or a check refuses.
-#[derive(Drop)]
+#[derive(Clone, Copy)]
 pub enum Step {
     On(usize),
     Passes,
@@ -25,7 +25,7 @@ pub enum Step {
 }
 
 // Where the walk stands: at a record of the list, whether that is the last, and how many splits stand above it.
-#[derive(Drop)]
+#[derive(Clone, Copy)]
 pub struct Position {
     pub number: u32,
     pub last: bool,

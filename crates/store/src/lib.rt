@@ -1,4 +1,6 @@
 // Node records, and the store and the lists that hold them.
+#![tactic(auto)]
+
 ghost use Rattle.std.specs.Prelude.{◌≡◌, ◌++◌, ◌+◌, ◌*◌, ◌-◌, ◌≤◌, ◌<◌, length, drop, replicate};
 ghost use Rattle.std.proofs.lemmas.List.Edits.{sets};
 ghost use Rattle.store.specs.Records.{record_length, next_place, next_bytes, most_next, fields, encode, Fits, of_kind, record_at, set_next, capacity};
@@ -16,11 +18,11 @@ pub const MOST_NODES: usize = 65535;
 const NEXT_PLACE: usize = 6;
 
 // The number of a node record, from 1; zero stands for none. Term records (sheet::Record) have numbers of their own.
-#[derive(Drop)]
+#[derive(Clone, Copy)]
 pub struct NodeNumber(pub u32);
 
 // A node record: a split of two lots with its next, the ground that is a condition, met, a clique, or bytes that are none of these.
-#[derive(Drop)]
+#[derive(Clone, Copy)]
 pub enum NodeRecord {
     Split(Lot, Lot, NodeNumber),
     Ground(Condition),

@@ -2,7 +2,7 @@
 
 // Of a group of sheets: how many there are, how many of each verdict, the nodes of all searches, how many verdicts the second solver can't judge, and how many
 // sheets on which two answers differ.
-#[derive(Drop)]
+#[derive(Clone, Copy)]
 pub struct Tally {
     pub sheets: u32,
     pub met: u32,
@@ -15,7 +15,7 @@ pub struct Tally {
 
 // Of damaged lists or sheets: how many were tried, how many passed the checker all the same, of how many of those the second solver says that they are wrong
 // or can't judge, and how many on which two answers differ.
-#[derive(Drop)]
+#[derive(Clone, Copy)]
 pub struct Damage {
     pub tried: u32,
     pub passed: u32,

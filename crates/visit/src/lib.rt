@@ -22,7 +22,7 @@ const LEVELS_LENGTH: usize = 256;
 const FIRST_LEVEL: u16 = 1;
 
 // How far a search has come: the sheet's conditions, the records written so far, the level of the path, and the limit.
-#[derive(Drop)]
+#[derive(Clone, Copy)]
 struct Stage {
     m: u16,
     before: u32,
@@ -58,7 +58,7 @@ impl Stage {
 }
 
 // How a visit ended: met, or nothing met under the node, with the records written so far; or the store is full.
-#[derive(Drop)]
+#[derive(Clone, Copy)]
 pub enum Visited {
     Met(u32),
     Cannot(u32),

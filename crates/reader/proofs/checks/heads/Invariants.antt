@@ -1,0 +1,18 @@
+use Prim.Native.Nat.{ℕ, ◌+◌, ◌-◌, ◌≤◌}
+use mathlib.Core.Bool.{Bool}
+use mathlib.Core.List.{List}
+use native.Mathlib.Omega.{arith}
+use lib.Dec.{ltb}
+use borrow.Author.Tests.{lt-ltb, le-ltb}
+use Rattle.sheet.specs.Format.{condition_count, record_count, head_at}
+use Rattle.sheet.specs.Checks.{check4}
+use Rattle.sheet.proofs.Loops.{Counting, start, end, refused, passed}
+use Rattle.sheet.proofs.Accepted.{conditions-counted, records-counted}
+use borrow.Author.Rules.{rules}
+use Rattle.reader.proofs.checks.heads.Given as goal
+
+abbrev pub invariant-loop-c : goal.invariant-loop-c
+invariant-loop-c l = Counting 4 (above_records l.sheet) (condition_count l.sheet) l.c
+
+abbrev pub decreases-loop-c : goal.decreases-loop-c
+decreases-loop-c l = l.m + 1 - l.c

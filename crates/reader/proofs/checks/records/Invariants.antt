@@ -1,0 +1,17 @@
+use Prim.Native.Nat.{ℕ, ◌+◌, ◌-◌, ◌≤◌}
+use mathlib.Core.Bool.{Bool, not, ◌||◌}
+use mathlib.Core.List.{List}
+use mathlib.Core.Path.{sym, ap, ◌∙◌}
+use native.Mathlib.Omega.{arith}
+use Rattle.sheet.specs.Format.{lowest_lot, record_count, vacant}
+use Rattle.sheet.specs.Checks.{check5, well_formed}
+use Rattle.sheet.proofs.Loops.{Counting, start, end, refused, passed}
+use Rattle.sheet.proofs.Accepted.{conditions-counted, records-counted, has_record}
+use borrow.Author.Rules.{rules}
+use Rattle.reader.proofs.checks.records.Given as goal
+
+abbrev pub invariant-loop-r : goal.invariant-loop-r
+invariant-loop-r l = Counting 5 (badly_formed l.sheet) (record_count l.sheet) l.r
+
+abbrev pub decreases-loop-r : goal.decreases-loop-r
+decreases-loop-r l = l.k + 1 - l.r
