@@ -1,6 +1,6 @@
 -- No path joins more often than there are lots to join: each join makes one class fewer, and the class of entry 0 is always left.
 use Prim.Native.Nat.{ℕ, zero, suc, ◌+◌, ◌-◌, ◌≤◌, ◌<◌, min}
-use mathlib.Core.Bool.{Bool, true, false, cond, ◌||◌, or_true}
+use mathlib.Core.Bool.{Bool, true, false, cond, ◌||◌, or-true}
 use mathlib.Core.List.{List, [], ◌∷◌}
 use mathlib.Core.Logic.{◌⊎◌, inl, inr, ⊎_elim}
 use mathlib.Core.Path.{◌≡◌, refl, sym, ap, ap₂, ◌∙◌}
@@ -119,7 +119,7 @@ module _ (ds : Decisions) (small : All Small ds) (a b : ℕ) (ha : a ≤ most_lo
 
   either_joined : (e : ℕ) → Either e → joined_to x y e ≡ min x y
   either_joined e (inl q) = simp (eq-eqb e x q)
-  either_joined e (inr q) = simp (eq-eqb e y q, or_true)
+  either_joined e (inr q) = simp (eq-eqb e y q, or-true)
 
   smaller_either : Either (min x y)
   smaller_either = go (leb x y) refl

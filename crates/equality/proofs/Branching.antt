@@ -1,7 +1,7 @@
 -- The nodes are at most 2 × P − 1 (theorem 5). φ is the product over the conditions without a true term of one plus their open "same" terms: the
 -- same branch drops the taken condition's factor 1 + w to 1, the apart branch to at most w, and no other factor grows.
 use Prim.Native.Nat.{ℕ, suc, ◌+◌, ◌*◌, ◌≤◌, ◌<◌}
-use mathlib.Core.Bool.{Bool, true, false, cond, or_true, false≢true}
+use mathlib.Core.Bool.{Bool, true, false, cond, or-true, false≢true}
 use mathlib.Core.List.{List, [], ◌∷◌, ◌++◌}
 use mathlib.Core.Path.{◌≡◌, refl, sym, ap, ◌∙◌}
 use native.Mathlib.Nat.{le_refl, mul-add, add-mul, mul-le-mul, mul-pos}
@@ -68,7 +68,7 @@ module _ (ds ds' : Decisions) (grows : Grows ds ds') where
   has_true_stays (t ∷ ts) e =
       or_cases (is_true_value (value ds t)) (has_true ds ts) e
       (λ h. rw (grows.trues t (true_value (value ds t) h)))
-      (λ h. simp (has_true_stays ts h, or_true))
+      (λ h. simp (has_true_stays ts h, or-true))
 
   weight_falls : (ts : List Term) → weight ds' ts ≤ weight ds ts
   weight_falls ts = go (has_true ds ts) (has_true ds' ts) refl refl
@@ -120,7 +120,7 @@ module _ (ds : Decisions) (a b : ℕ) (open' : closed ds a b ≡ false) where
   now_true : (before after : List Term) → has_true (same a b ∷ ds) (before ++ same a b ∷ after) ≡ true
   unfolding any_term value
   now_true [] after = simp (same_shares ds a b)
-  now_true (t ∷ before) after = simp (now_true before after, or_true)
+  now_true (t ∷ before) after = simp (now_true before after, or-true)
 
   taken_shares : (before after : List Term) → has_true ds (before ++ same a b ∷ after) ≡ false
       → weight (same a b ∷ ds) (before ++ same a b ∷ after) + weight (apart a b ∷ ds) (before ++ same a b ∷ after)

@@ -1,6 +1,6 @@
 -- A lot's entry is the least lot of its class (theorem 1, classes).
 use Prim.Native.Nat.{ℕ, ◌≤◌, min}
-use mathlib.Core.Bool.{Bool, true, false, cond, ◌||◌, or_true}
+use mathlib.Core.Bool.{Bool, true, false, cond, ◌||◌, or-true}
 use mathlib.Core.Logic.{◌⊎◌, inl, inr, ⊎_elim}
 use mathlib.Core.List.{[], ◌∷◌}
 use mathlib.Core.Path.{◌≡◌, refl, sym, ap, ◌∙◌}
@@ -49,7 +49,7 @@ joined_twice : (x y z : ℕ) → joined_to x y (joined_to x y z) ≡ joined_to x
 joined_twice x y z = go (eqb z x || eqb z y) refl
   where
     smaller : joined_to x y (min x y) ≡ min x y
-    smaller = ⊎_elim (λ e. simp (eq-eqb (min x y) x e)) (λ e. simp (eq-eqb (min x y) y e, or_true)) (min_either x y)
+    smaller = ⊎_elim (λ e. simp (eq-eqb (min x y) x e)) (λ e. simp (eq-eqb (min x y) y e, or-true)) (min_either x y)
 
     go : (p : Bool) → (eqb z x || eqb z y) ≡ p → joined_to x y (cond p (min x y) z) ≡ cond p (min x y) z
     go true e = smaller

@@ -4,7 +4,6 @@ use mathlib.Core.Bool.{Bool, true, false, cond, false≢true}
 use mathlib.Core.List.{List, [], ◌∷◌, ◌++◌}
 use mathlib.Core.Path.{◌≡◌, refl, sym, ap, ◌∙◌}
 use native.Mathlib.Omega.{arith}
-use borrow.Author.Rules.{zero≤}
 use Rattle.sheet.specs.Conditions.{Term, same, apart}
 use Rattle.buffers.specs.Lists.{All}
 use Rattle.buffers.proofs.Lists.{all_at}
@@ -42,7 +41,7 @@ module _ (ds ds' : Decisions) (further : Further ds ds') where
   count_falls (same a b) = go (closed ds a b) (closed ds' a b) refl refl
     where
       go : (p q : Bool) → closed ds a b ≡ p → closed ds' a b ≡ q → cond q 0 1 ≤ cond p 0 1
-      go p true ep eq = zero≤
+      go p true ep eq = omega arith
       go true false ep eq = absurd (false≢true (sym eq ∙ further a b ep))
       go false false ep eq = omega arith
 

@@ -1,5 +1,5 @@
 -- Laws of "some term of a condition is such and such". All but one, `some_no_term`, hold whatever a condition with no term counts for.
-use mathlib.Core.Bool.{Bool, true, false, ◌||◌, or_true, false≢true}
+use mathlib.Core.Bool.{Bool, true, false, ◌||◌, or-true, false≢true}
 use mathlib.Core.List.{List, [], ◌∷◌, ◌++◌}
 use mathlib.Core.Logic.{⊎_elim}
 use mathlib.Core.Path.{◌≡◌, refl, sym, ap, ap₂, fun_ext}
@@ -60,7 +60,7 @@ module _ (p : Term → Bool) where
   pub any_here : (before : List Term) (t : Term) (after : List Term) → p t ≡ true → any_term p (before ++ t ∷ after) ≡ true
   unfolding any_term
   any_here [] t after e = rw e
-  any_here (u ∷ before) t after e = rw (any_here before t after e) (or_true (p u))
+  any_here (u ∷ before) t after e = rw (any_here before t after e) (or-true (p u))
 
   -- Two tests that agree at each term of a condition agree on the condition;
   pub any_agree : (q : Term → Bool) (ts : List Term) → All (λ t. p t ≡ q t) ts → any_term p ts ≡ any_term q ts

@@ -1,6 +1,6 @@
 -- What one decision more does to classes, marks and open terms: whatever was closed stays closed, and the pair decided is closed.
 use Prim.Native.Nat.{ℕ}
-use mathlib.Core.Bool.{Bool, true, false, cond, ◌&&◌, ◌||◌, or_true, false≢true}
+use mathlib.Core.Bool.{Bool, true, false, cond, ◌&&◌, ◌||◌, or-true, false≢true}
 use mathlib.Core.List.{List, [], ◌∷◌}
 use mathlib.Core.Path.{◌≡◌, refl, sym, ap, ◌∙◌}
 use borrow.Author.Tests.{eqb-true, eq-eqb}
@@ -56,7 +56,7 @@ module _ (cs cs' : List ℕ) (g : ℕ → ℕ) (renamed : (lot : ℕ) → get_or
   renamed_between x y a b e =
       or_cases (eqb (get_or cs a 0) x && eqb (get_or cs b 0) y) (eqb (get_or cs a 0) y && eqb (get_or cs b 0) x) e
       (λ h. let both = and_true_both _ _ h in simp (renamed_test a x both.0, renamed_test b y both.1))
-      (λ h. let both = and_true_both _ _ h in simp (renamed_test a y both.0, renamed_test b x both.1, or_true))
+      (λ h. let both = and_true_both _ _ h in simp (renamed_test a y both.0, renamed_test b x both.1, or-true))
 
   pub renamed_marked : (ds : Decisions) (x y : ℕ) → marked cs ds x y ≡ true → marked cs' ds (g x) (g y) ≡ true
   unfolding marked
@@ -65,7 +65,7 @@ module _ (cs cs' : List ℕ) (g : ℕ → ℕ) (renamed : (lot : ℕ) → get_or
   renamed_marked (apart a b ∷ ds) x y e =
       or_cases (between cs x y a b) (marked cs ds x y) e
       (λ h. simp (renamed_between x y a b h))
-      (λ h. simp (renamed_marked ds x y h, or_true))
+      (λ h. simp (renamed_marked ds x y h, or-true))
 
 -- ---- one pair more
 
@@ -88,25 +88,25 @@ module _ (ds : Decisions) (a b : ℕ) where
   same-closed u v e =
       or_cases (share ds u v) (marked_apart ds u v) e
       (λ p. simp (share_stays u v p))
-      (λ q. simp (marked_stays u v q, or_true))
+      (λ q. simp (marked_stays u v q, or-true))
 
   pub apart-closed : (u v : ℕ) → closed ds u v ≡ true → closed (apart a b ∷ ds) u v ≡ true
   unfolding classes marked
   apart-closed u v e =
       or_cases (share ds u v) (marked_apart ds u v) e
       (λ p. simp p)
-      (λ q. simp (q, or_true))
+      (λ q. simp (q, or-true))
 
   -- and the pair decided is closed.
   pub same_shares : share (same a b ∷ ds) a b ≡ true
   same_shares = eq-eqb _ _ (same_class ds a b a ∙ joined (smallest_lot ds a) (smallest_lot ds b) ∙ sym (same_class ds a b b))
     where
       joined : (x y : ℕ) → joined_to x y x ≡ joined_to x y y
-      joined x y = simp (eqb_self, or_true)
+      joined x y = simp (eqb_self, or-true)
 
   pub same_closes : closed (same a b ∷ ds) a b ≡ true
   same_closes = simp same_shares
 
   pub apart_closes : closed (apart a b ∷ ds) a b ≡ true
   unfolding classes marked
-  apart_closes = simp (eqb_self, or_true)
+  apart_closes = simp (eqb_self, or-true)

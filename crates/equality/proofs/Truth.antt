@@ -1,6 +1,6 @@
 -- A term that is true stays true when an open pair is decided, either way.
 use Prim.Native.Nat.{ℕ, min}
-use mathlib.Core.Bool.{Bool, true, false, cond, ◌&&◌, ◌||◌, or_comm, or_true, false≢true}
+use mathlib.Core.Bool.{Bool, true, false, cond, ◌&&◌, ◌||◌, or_comm, or-true, false≢true}
 use mathlib.Core.List.{List, [], ◌∷◌}
 use mathlib.Core.Logic.{◌⊎◌, inl, inr, ⊎_elim}
 use mathlib.Core.Path.{◌≡◌, refl, sym, ap₂, ◌∙◌}
@@ -24,7 +24,7 @@ joined_equal x y p q e = go (eqb p x || eqb p y) (eqb q x || eqb q y) refl refl 
 
     none_of : (z : ℕ) → (eqb z x || eqb z y) ≡ false → z ≡ min x y → ⊥
     none_of z h m =
-        ⊎_elim (λ l. false≢true (sym h ∙ simp (eq-eqb z x (m ∙ l)))) (λ r. false≢true (sym h ∙ simp (eq-eqb z y (m ∙ r), or_true))) (min_either x y)
+        ⊎_elim (λ l. false≢true (sym h ∙ simp (eq-eqb z x (m ∙ l)))) (λ r. false≢true (sym h ∙ simp (eq-eqb z y (m ∙ r), or-true))) (min_either x y)
 
     both : (p ≡ x) ⊎ (p ≡ y) → (q ≡ x) ⊎ (q ≡ y) → (p ≡ q) ⊎ (((p ≡ x) × (q ≡ y)) ⊎ ((p ≡ y) × (q ≡ x)))
     both (inl a) (inl b) = inl (a ∙ sym b)
@@ -67,7 +67,7 @@ module _ (ds : Decisions) (a b : ℕ) (open' : closed ds a b ≡ false) where
   still_apart u v p q = go (share (same a b ∷ ds) u v) refl
     where
       marked' : marked_apart ds a b ≡ true → ⊥
-      marked' m = false≢true (sym open' ∙ simp (m, or_true))
+      marked' m = false≢true (sym open' ∙ simp (m, or-true))
 
       impossible : (smallest_lot ds u ≡ smallest_lot ds v)
           ⊎ (((smallest_lot ds u ≡ smallest_lot ds a) × (smallest_lot ds v ≡ smallest_lot ds b)) ⊎ ((smallest_lot ds u ≡ smallest_lot ds b) × (smallest_lot ds v ≡ smallest_lot ds a)))
@@ -97,4 +97,4 @@ module _ (ds : Decisions) (a b : ℕ) (open' : closed ds a b ≡ false) where
   apart_true (same u v) e = rw (shared_true (share ds u v) (marked_apart ds u v) e)
   apart_true (apart u v) e =
       let both = true_share (share ds u v) (marked_apart ds u v) e in
-      simp (both.0, both.1, or_true)
+      simp (both.0, both.1, or-true)

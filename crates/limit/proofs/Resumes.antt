@@ -1,6 +1,6 @@
 -- After a pair that the limit splits on is set apart, no condition is taken, the same classes are left, and the scan goes on after the pair.
 use Prim.Native.Nat.{ℕ, zero, suc, ◌+◌, ◌-◌, ◌<◌}
-use mathlib.Core.Bool.{Bool, true, false, cond, or_true}
+use mathlib.Core.Bool.{Bool, true, false, cond, or-true}
 use mathlib.Core.List.{List, [], ◌∷◌, ◌++◌}
 use mathlib.Core.Path.{◌≡◌, refl, sym, ap, ap₂, ◌∙◌}
 use native.Mathlib.Omega.{arith}
@@ -163,7 +163,7 @@ module _ (cs : List ℕ) where
 module _ (ds : Decisions) (x y : ℕ) where
   stays_marked : (u v : ℕ) → marks_of ds u v ≡ true → marks_of (apart x y ∷ ds) u v ≡ true
   unfolding classes marked
-  stays_marked u v e = rw e (or_true (between (classes ds) u v x y))
+  stays_marked u v e = rw e (or-true (between (classes ds) u v x y))
 
   passed_stays : (front rest : List ℕ) → Passed (marks_of ds) front rest → Passed (marks_of (apart x y ∷ ds)) front rest
   passed_stays [] rest passed = tt

@@ -53,7 +53,7 @@ fn walk(sheet: &[u8], h: Header, flags: &mut [u8]) -> Verdict
 // Checks 17, 6 and 7: each record that isn't vacant is reached, and once, and no other is. No flag is set yet.
 fn reached_once(sheet: &[u8], h: Header, flags: &mut [u8]) -> Verdict
     requires { Walkable sheet.now h flags.old × Flags flags.old [] }
-    ensures { result ≡ or_else (check17And6 sheet.now) (check7 sheet.now) }
+    ensures { result ≡ or_else (check17_and6 sheet.now) (check7 sheet.now) }
 {
     let v = walk(sheet, h, flags);
     if let Verdict::Refuses(_, _) = v {
@@ -65,7 +65,7 @@ fn reached_once(sheet: &[u8], h: Header, flags: &mut [u8]) -> Verdict
 // Checks 17, 6 and 7, once checks 1 to 5 have passed.
 pub(crate) fn check(sheet: &[u8], h: Header) -> Verdict
     requires { HasHeader sheet.now h × (check4 sheet.now ≡ Passes) × (check5 lowest_lot sheet.now ≡ Passes) }
-    ensures { result ≡ or_else (check17And6 sheet.now) (check7 sheet.now) }
+    ensures { result ≡ or_else (check17_and6 sheet.now) (check7 sheet.now) }
 {
     let k = h.records as usize;
     let mut flags = [0u8; 1024];

@@ -1,7 +1,7 @@
 -- Conditions that are settled stay so: the scan may leave them out. A join leaves lots that share a class in one, and a pair set apart changes no class.
 -- Its level says that a condition is settled, and at which level of the path it was seen to be.
 use Prim.Native.Nat.{ℕ, zero, suc, ◌+◌, ◌-◌, ◌≤◌, ◌<◌, min}
-use mathlib.Core.Bool.{Bool, true, false, cond, ◌||◌, or_true, false≢true, beq}
+use mathlib.Core.Bool.{Bool, true, false, cond, ◌||◌, or-true, false≢true, beq}
 use mathlib.Core.List.{List, [], ◌∷◌, ◌++◌}
 use mathlib.Core.Logic.{◌≢◌, ◌⊎◌, inl, inr}
 use mathlib.Core.Path.{◌≡◌, refl, sym, ap, ◌∙◌}
@@ -99,7 +99,7 @@ first-joins : (x y : ℕ) → joined_to x y x ≡ min x y
 first-joins x y = simp (eq-eqb x x refl)
 
 second-joins : (x y : ℕ) → joined_to x y y ≡ min x y
-second-joins x y = simp (eq-eqb y y refl, or_true)
+second-joins x y = simp (eq-eqb y y refl, or-true)
 
 pair_shares : (cs : List ℕ) (a b : ℕ) → sharing (merged (class_of cs a) (class_of cs b) cs) (same a b) ≡ true
 pair_shares cs a b =

@@ -1,6 +1,6 @@
 -- `checker::ill_sized`: one test after the other.
 use borrow.Author.Tests.{eq-eqb, ne_eqb}
-use mathlib.Core.Bool.{or_true}
+use mathlib.Core.Bool.{or-true}
 use Rattle.checker.proofs.ill_sized.Statement.{statement}
 use Rattle.checker.proofs.ill_sized.Tie as tie
 
@@ -8,7 +8,7 @@ returns : tie.Need-returns
 returns c = simp (eq-eqb _ _ c.if1.true)
 
 returns-2 : tie.Need-returns-2
-returns-2 c = simp (ne_eqb _ _ c.before.if1.false, ne_eqb _ _ c.if2.true, or_true)
+returns-2 c = simp (ne_eqb _ _ c.before.if1.false, ne_eqb _ _ c.if2.true, or-true)
 
 returns-3 : tie.Need-returns-3
 returns-3 c = simp (ne_eqb _ _ c.before.if1.false, eq-eqb _ _ c.if2.false)

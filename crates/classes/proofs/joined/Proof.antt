@@ -1,7 +1,7 @@
 -- `classes::joined`, by whether the class is the one, the other or neither.
 use borrow.Author.Tests.{eq-eqb, ne_eqb}
 use Prim.Native.Nat.{min}
-use mathlib.Core.Bool.{or_true}
+use mathlib.Core.Bool.{or-true}
 use mathlib.Core.Logic.{⊎_elim}
 use mathlib.Core.Path.{◌≡◌}
 use native.Mathlib.Omega.{arith}
@@ -15,7 +15,7 @@ returns : tie.Need-returns
 returns c = simp (eq-eqb _ _ c.if2.true) (smaller_is c.before)
 
 returns-2 : tie.Need-returns-2
-returns-2 c = simp (eq-eqb _ _ c.if3.true, or_true) (smaller_is c.before.before)
+returns-2 c = simp (eq-eqb _ _ c.if3.true, or-true) (smaller_is c.before.before)
 
 returns-3 : tie.Need-returns-3
 returns-3 c = simp (ne_eqb _ _ c.before.if2.false, ne_eqb _ _ c.if3.false)

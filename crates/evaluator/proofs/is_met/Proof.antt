@@ -1,6 +1,6 @@
 -- `evaluator::is_met`: the loop ends at the first true term. The invariant: every term that it has passed is false. What is left of the chain falls. A chain
 -- with no term is a withdrawn condition's, which is met.
-use mathlib.Core.Bool.{Bool, true, false, ◌||◌, or_true, or-false}
+use mathlib.Core.Bool.{Bool, true, false, ◌||◌, or-true, or-false}
 use mathlib.Core.List.{List}
 use mathlib.Core.Path.{◌≡◌, refl, sym, ap, ◌∙◌}
 use Prim.Native.Nat.{ℕ, ◌≤◌}
@@ -143,7 +143,7 @@ returns-2 c =
     let l = tested a in
     let start = begun l in
     c.if2.true
-    ∙ sym (or_true (eqb start.args.head.0 0))
+    ∙ sym (or-true (eqb start.args.head.0 0))
     ∙ lifted start (found _ _ (accepted start) _ _ l.loop.inv.0 (record_number (turn a)) (left_at_true c))
 
 pub is-met-spec : {M : Type 1} → statement M

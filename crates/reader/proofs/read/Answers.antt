@@ -10,14 +10,14 @@ use Rattle.reader.proofs.read.Goals as goal
 pub header_of-h-requires : goal.header_of-h-requires
 header_of-h-requires c =
     let s : List ℕ = c.args.sheet.now in
-    header-whole (sound s (sym c.first_refusal-v.ensures ∙ c.enum_told-1.given.1)).header
+    header-whole (sound s (sym c.first_refusal-v.ensures ∙ c.in-Passes.is)).header
 
 pub returns-in-Refuses : goal.returns-in-Refuses
 unfolding read_answer_with
 returns-in-Refuses c =
-    rw (sym c.first_refusal-v.ensures ∙ c.v-1.given.1)
+    rw (sym c.first_refusal-v.ensures ∙ c.in-Refuses.is)
 
 pub returns-in-Passes : goal.returns-in-Passes
 unfolding read_answer_with
 returns-in-Passes c =
-    rw (sym c.first_refusal-v.ensures ∙ c.enum_told-1.given.1, c.header_of-h.ensures)
+    rw (sym c.first_refusal-v.ensures ∙ c.in-Passes.is, c.header_of-h.ensures)

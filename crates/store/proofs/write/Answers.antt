@@ -5,29 +5,29 @@ use Rattle.store.proofs.write.Goals as goal
 
 pub put_fields-requires : goal.put_fields-requires
 put_fields-requires c =
-    (c.requires.0, (rw c.node-1.given.1 at c.requires.1).2)
+    (c.requires.0, (rw c.in-Split.is at c.requires.1).2)
 
 pub returns-in-Split : goal.returns-in-Split
 unfolding encode
 returns-in-Split c =
-    rw c.node-1.given.1 c.put_fields.ensures
+    rw c.in-Split.is c.put_fields.ensures
 
 pub returns-in-Ground : goal.returns-in-Ground
 unfolding encode
 returns-in-Ground c =
-    rw c.node-in-Ground-1.given.1 c.put_fields-in-Ground.ensures
+    rw c.in-Ground.is c.put_fields-in-Ground.ensures
 
 pub returns-in-Met : goal.returns-in-Met
 unfolding encode
 returns-in-Met c =
-    rw c.enum_told-1.given.1 c.put_fields-in-Met.ensures
+    rw c.in-Met.is c.put_fields-in-Met.ensures
 
 pub returns-in-Clique : goal.returns-in-Clique
 unfolding encode
 returns-in-Clique c =
-    rw c.enum_told-in-Clique-1.given.1 c.put_fields-in-Clique.ensures
+    rw c.in-Clique.is c.put_fields-in-Clique.ensures
 
 pub returns-in-Other : goal.returns-in-Other
 unfolding encode
 returns-in-Other c =
-    rw c.enum_told-in-Other-1.given.1 c.put_fields-in-Other.ensures
+    rw c.in-Other.is c.put_fields-in-Other.ensures

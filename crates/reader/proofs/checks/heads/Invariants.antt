@@ -11,6 +11,9 @@ use Rattle.sheet.proofs.Accepted.{conditions-counted, records-counted}
 use borrow.Author.Rules.{rules}
 use Rattle.reader.proofs.checks.heads.Given as goal
 
+abbrev above_records : List ℕ → ℕ → Bool
+above_records s c = ltb (record_count s) (head_at s c)
+
 abbrev pub invariant-loop-c : goal.invariant-loop-c
 invariant-loop-c l = Counting 4 (above_records l.sheet) (condition_count l.sheet) l.c
 

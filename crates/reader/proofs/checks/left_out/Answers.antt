@@ -1,6 +1,6 @@
 -- `reader::checks::left_out` meets its contract: a record that isn't flagged is left out unless it is vacant, which its sign tells.
 use Prim.Native.Nat.{ℕ}
-use mathlib.Core.Bool.{Bool, true, false, not, ◌||◌, or_true, or-false}
+use mathlib.Core.Bool.{Bool, true, false, not, ◌||◌, or-true, or-false}
 use mathlib.Core.Path.{◌≡◌, sym, ap, subst, ◌∙◌}
 use lib.Dec.{eqb}
 use borrow.Author.Tests.{eq-eqb, ne_eqb}
@@ -12,7 +12,7 @@ use borrow.Author.Rules.{rules}
 use Rattle.reader.proofs.checks.left_out.Goals as goal
 
 flagged : (v : Bool) {b : Bool} → b ≡ true → false ≡ not (v || b)
-flagged v e = sym (rw (e, or_true v))
+flagged v e = sym (rw (e, or-true v))
 
 unflagged : {v w b : Bool} → b ≡ false → w ≡ v → not w ≡ not (v || b)
 unflagged {v} e same = rw (e, same, or-false v)

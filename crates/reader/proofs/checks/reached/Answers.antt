@@ -28,12 +28,12 @@ pub returns-then-left_out : goal.returns-then-left_out
 unfolding unflagged_verdict
 returns-then-left_out c =
     let in_range : c.loop-r.r ≤ record_count c.args.sheet.now = omega (arith, records-counted c.requires.header) in
-    refused c.loop-r.invariant (in_range) (sym c.left_out_lem.ensures ∙ c.if-left_out.true)
+    refused c.loop-r.invariant (in_range) (sym c.left_out.ensures ∙ c.if-left_out.true)
 
 pub loop-r-preserved : goal.loop-r-preserved
 loop-r-preserved c =
     let in_range : c.loop-r.r ≤ record_count c.args.sheet.now = omega (arith, records-counted c.requires.header) in
-    passed c.loop-r.invariant (in_range) (sym c.left_out_lem.ensures ∙ c.if-left_out.false)
+    passed c.loop-r.invariant (in_range) (sym c.left_out.ensures ∙ c.if-left_out.false)
 
 pub returns : goal.returns
 unfolding unflagged_verdict

@@ -10,6 +10,9 @@ use Rattle.sheet.proofs.Loops.{Counting, start, end, refused, passed}
 use borrow.Author.Rules.{rules}
 use Rattle.reader.proofs.checks.reached.Given as goal
 
+abbrev left_out : List ℕ → List ℕ → ℕ → Bool
+left_out s flags r = not (vacant s r || is_flagged flags r)
+
 abbrev pub invariant-loop-r : goal.invariant-loop-r
 invariant-loop-r l = Counting 7 (left_out l.sheet l.flags) (record_count l.sheet) l.r
 

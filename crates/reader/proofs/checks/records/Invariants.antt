@@ -10,6 +10,9 @@ use Rattle.sheet.proofs.Accepted.{conditions-counted, records-counted, has_recor
 use borrow.Author.Rules.{rules}
 use Rattle.reader.proofs.checks.records.Given as goal
 
+abbrev badly_formed : List ℕ → ℕ → Bool
+badly_formed s r = not (vacant s r || well_formed lowest_lot s r)
+
 abbrev pub invariant-loop-r : goal.invariant-loop-r
 invariant-loop-r l = Counting 5 (badly_formed l.sheet) (record_count l.sheet) l.r
 

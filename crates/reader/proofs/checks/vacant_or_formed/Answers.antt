@@ -1,5 +1,5 @@
 -- `reader::checks::vacant_or_formed` meets its contract: a record that isn't well formed has to be vacant.
-use mathlib.Core.Bool.{or_true, or-false}
+use mathlib.Core.Bool.{or-true, or-false}
 use mathlib.Core.Path.{sym, ◌∙◌}
 use Rattle.sheet.specs.Format.{vacant}
 use borrow.Author.Rules.{rules}
@@ -8,9 +8,9 @@ use Rattle.reader.proofs.checks.vacant_or_formed.Goals as goal
 pub returns-then-well_formed : goal.returns-then-well_formed
 returns-then-well_formed c =
     let a = c.args in
-    sym (rw (sym c.well-formed-2.ensures ∙ c.if-well_formed.true) (or_true (vacant a.sheet.now a.r.0)))
+    sym (rw (sym c.well_formed-2.ensures ∙ c.if-well_formed.true) (or-true (vacant a.sheet.now a.r.0)))
 
 pub returns : goal.returns
 returns c =
     let a = c.args in
-    c.is_vacant.ensures ∙ sym (rw (sym c.well-formed-2.ensures ∙ c.if-well_formed.false) (or-false (vacant a.sheet.now a.r.0)))
+    c.is_vacant.ensures ∙ sym (rw (sym c.well_formed-2.ensures ∙ c.if-well_formed.false) (or-false (vacant a.sheet.now a.r.0)))

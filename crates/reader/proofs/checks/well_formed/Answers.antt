@@ -33,7 +33,7 @@ returns c =
     let signed : let a = c.args in c.sign_known.result ≡ (eqb (sign_spare_at a.sheet.now a.r.0) same_sign || eqb (sign_spare_at a.sheet.now a.r.0) apart_sign) = c.sign_known.ensures ∙ ap (λ (x : ℕ). eqb x same_sign || eqb x apart_sign) c.sign_spare_at.ensures in
     sym (by_tests
     ∙ simp (
-      sym (signed) ∙ not-false _ c.if1.false,
-      sym c.in-lots.ensures ∙ not-false _ c.if2.false,
+      sym (signed) ∙ not-false _ c.if-not-sign_known.false-raw,
+      sym c.in_lots.ensures ∙ not-false _ c.if-not-in_lots.false-raw,
       sym c.in_lots-2.ensures ∙ not-false _ c.if-not-in_lots-2.false-raw,
     ))

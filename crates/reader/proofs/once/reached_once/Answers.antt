@@ -6,10 +6,10 @@ use Rattle.reader.proofs.once.reached_once.Goals as goal
 
 pub returns-in-Refuses : goal.returns-in-Refuses
 returns-in-Refuses c =
-    walk_refused c.args.sheet.now c.enum_told-1.given.1 c.walk-v.new.flags c.walk-v.ensures
+    walk_refused c.args.sheet.now c.in-Refuses.is c.walk-v.new.flags c.walk-v.ensures
 
 pub returns : goal.returns
 returns c =
     c.reached.ensures
-    ∙ walk_passed c.args.sheet.now c.enum-told2.given.1 c.walk.new.1.1.0
-    (c.walk.auto.1.1.0 ∙ c.requires.0.flaggable.room) c.walk.ensures
+    ∙ walk_passed c.args.sheet.now c.in_default.is c.walk-v.new.flags
+    (c.walk-v.auto.flags ∙ c.requires.0.flaggable.room) c.walk-v.ensures

@@ -37,7 +37,7 @@ returns-in-Refuses c =
     let in_range : c.loop-c.c ≤ condition_count c.args.sheet.now = omega (arith, conditions-counted c.requires.0.flaggable.header) in
     let chain-walked : let s : List ℕ = c.args.sheet.now in WalkedTo (one_chain s c.loop-c.invariant.seen (head_at s c.loop-c.c)) c.walk_chain-v.result c.walk_chain-v.new.flags = let i = c.loop-c.invariant in
     rw c.head_at-head.ensures at (c.walk_chain-v.ensures i.seen i.stand) in
-    chain-refused c.loop-c.invariant (in_range) c.enum_told-1.given.1 c.walk_chain-v.new.flags (chain-walked)
+    chain-refused c.loop-c.invariant (in_range) c.in-Refuses.is c.walk_chain-v.new.flags (chain-walked)
 
 pub loop-c-preserved : goal.loop-c-preserved
 loop-c-preserved c =
@@ -45,7 +45,7 @@ loop-c-preserved c =
     let chain-walked : let s : List ℕ = c.args.sheet.now in WalkedTo (one_chain s c.loop-c.invariant.seen (head_at s c.loop-c.c)) c.walk_chain-v.result c.walk_chain-v.new.flags = let i = c.loop-c.invariant in
     rw c.head_at-head.ensures at (c.walk_chain-v.ensures i.seen i.stand) in
     let i = c.loop-c.invariant in
-    chain-passed i (in_range) c.enum_told-in_default-1.given.1 (c.walk_chain-v.auto.flags ∙ i.room) (chain-walked)
+    chain-passed i (in_range) c.in_default.is (c.walk_chain-v.auto.flags ∙ i.room) (chain-walked)
 
 pub returns : goal.returns
 returns c =
