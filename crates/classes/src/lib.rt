@@ -1,4 +1,6 @@
 // The classes of a path by value, and its pairs set apart in lent bytes. Each method takes the map and hands it back in its answer.
+#![tactic(auto)]
+
 ghost use Rattle.std.specs.Prelude.{◌≡◌, cond, ◌&&◌, ◌||◌, [], ◌+◌, ◌*◌, ◌≤◌, min, eqb, length, take, drop};
 ghost use Rattle.sheet.specs.Format.{most_lots};
 ghost use Rattle.equality.specs.Node.{merged, class_of, classes, marked};

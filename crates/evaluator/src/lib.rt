@@ -1,4 +1,6 @@
 // The evaluator: whether the numbers that a grouping gives the lots meet a sheet.
+#![tactic(auto)]
+
 ghost use Rattle.std.specs.Prelude.{◌≡◌, ℕ, ◌+◌, ◌≤◌, ◌<◌, length, get_or};
 ghost use Rattle.sheet.specs.Format.{lot_count};
 ghost use Rattle.sheet.specs.Conditions.{term_of, terms_from, conditions};

@@ -1,4 +1,6 @@
 // The lines of the printed text, written into a buffer from a place on. Each function answers the place after what it wrote.
+#![tactic(auto)]
+
 mod put; // put.rt: bytes, words and numbers
 
 ghost use Rattle.std.specs.Prelude.{[], ◌∷◌, ◌+◌, ◌*◌, ◌≤◌, length, take};

@@ -1,5 +1,7 @@
 // The parts of which writers of canonical sheets are made: the header, then condition after condition, each with its terms one by one, from wherever they come.
 // A term that is added gets next zero, and its number goes where the term before it, or the head, leads on.
+#![tactic(auto)]
+
 ghost use Rattle.std.specs.Prelude.{◌≡◌, ◌+◌, ◌*◌, ◌≤◌, length};
 ghost use Rattle.sheet.specs.Format.{header_length, condition_count, sheet_length};
 ghost use Rattle.sheet.specs.Conditions.{term_of, terms_from, condition_at};
