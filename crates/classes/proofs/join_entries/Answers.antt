@@ -36,4 +36,4 @@ pub returns : goal.returns
 returns c =
     let a = c.args in
     let all = joins a.lots.now c.loop-i.lots a.x a.y c.loop-i.i (omega arith) c.loop-i.invariant.2 in
-    (all, λ zero. ap (λ (l : List ℕ). class_of l 0) all ∙ merged_zero a.x a.y a.lots.now zero)
+    record { joined = all; zero = λ zero. ap (λ (l : List ℕ). class_of l 0) all ∙ merged_zero a.x a.y a.lots.now zero }

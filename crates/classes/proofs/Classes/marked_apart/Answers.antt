@@ -39,12 +39,12 @@ loop-left-preserved-then-u-v c =
 
 pub returns-then-between : goal.returns-then-between
 returns-then-between c =
-    let a = c.args in (
-      refl,
-      sym
+    let a = c.args in record {
+      classes = refl;
+      marked = sym
           (c.loop-left.invariant.1
-          ∙ found a.t1.lots a.pairs.now _ _ c.loop-left.left (omega arith) (sym c.between.ensures ∙ c.if-between.true)),
-    )
+          ∙ found a.t1.lots a.pairs.now _ _ c.loop-left.left (omega arith) (sym c.between.ensures ∙ c.if-between.true));
+    }
 
 pub loop-left-preserved : goal.loop-left-preserved
 loop-left-preserved c =
@@ -57,4 +57,4 @@ loop-left-preserved c =
 pub returns : goal.returns
 returns c =
     let a = c.args in
-    (refl, sym (c.loop-left.invariant.1 ∙ none_left_lem a.t1.lots a.pairs.now _ _ c.loop-left.left (omega arith)))
+    record { classes = refl; marked = sym (c.loop-left.invariant.1 ∙ none_left_lem a.t1.lots a.pairs.now _ _ c.loop-left.left (omega arith)) }
