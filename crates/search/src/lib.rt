@@ -1,4 +1,6 @@
 // The search over a sheet: its answer, the grouping it finds and the nodes it visits.
+#![tactic(auto)]
+
 ghost use Rattle.std.specs.Prelude.{◌≡◌, ◌+◌, ◌≤◌, ◌<◌, length};
 ghost use Rattle.sheet.specs.declared.Verdict.TheVariants.{Passes};
 ghost use Rattle.sheet.specs.Format.{lot_count};
