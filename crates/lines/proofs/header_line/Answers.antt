@@ -1,7 +1,7 @@
 -- `lines::header_line` meets its contract: the words and the numbers in turn, and the line's end.
 use Prim.Native.Nat.{ℕ}
 use mathlib.Core.List.{List, [], ◌∷◌}
-use mathlib.Core.Path.{◌≡◌, ap, ◌∙◌}
+use mathlib.Core.Path.{◌≡◌, ap}
 use native.Mathlib.Omega.{arith}
 use lib.ListN.{drop}
 use Rattle.sheet.specs.Format.{lot_count, condition_count, record_count}
@@ -10,7 +10,6 @@ use Rattle.sheet.specs.Inner.{header_at}
 use Rattle.lines.specs.Lines.{decimal, lots_word, conditions_word, terms_word, header_line}
 use Rattle.lines.proofs.Fields.{after, start_line}
 use Rattle.buffers.proofs.Writing.{Writing, room-left, room, then, last}
-use borrow.Author.Rules.{rules}
 use Rattle.lines.proofs.header_line.Goals as goal
 
 pub put_word-next-requires : goal.put_word-next-requires

@@ -1,6 +1,6 @@
 -- `lines::met_line` meets its contract. The loop's invariant: what is left to write of the line after its word is the fields from byte i on, and
 -- its end; i is at most the count of lots. The measure is the fields that are left.
-use Prim.Native.Nat.{ℕ, suc, ◌-◌, ◌≤◌}
+use Prim.Native.Nat.{ℕ, suc}
 use mathlib.Core.List.{[], ◌∷◌, ◌++◌, map}
 use mathlib.Core.Path.{◌≡◌, ap, ◌∙◌}
 use native.Mathlib.Numerals.{add-one}
@@ -10,7 +10,6 @@ use lib.Seq.{slice, slice-cons, slice_empty}
 use Rattle.lines.specs.Lines.{decimal, met_word, met_line}
 use Rattle.lines.proofs.Fields.{after, start_line}
 use Rattle.buffers.proofs.Writing.{Writing, start, room-left, room, then, last}
-use borrow.Author.Rules.{rules}
 use Rattle.lines.proofs.met_line.Goals as goal
 
 pub put_word-next-requires : goal.put_word-next-requires

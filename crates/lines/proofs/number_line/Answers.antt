@@ -6,7 +6,6 @@ use lib.ListN.{drop}
 use Rattle.lines.specs.Lines.{decimal, line}
 use Rattle.lines.proofs.Fields.{after, start_line}
 use Rattle.buffers.proofs.Writing.{Writing, room-left, room, then, last}
-use borrow.Author.Rules.{rules}
 use Rattle.lines.proofs.number_line.Goals as goal
 
 pub put_word-next-requires : goal.put_word-next-requires

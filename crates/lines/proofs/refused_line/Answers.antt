@@ -1,13 +1,11 @@
 -- `lines::refused_line` meets its contract: the word, the two numbers and the line's end, one after the other.
 use Prim.Native.Nat.{ℕ}
 use mathlib.Core.List.{List, [], ◌∷◌}
-use mathlib.Core.Path.{◌∙◌}
 use native.Mathlib.Omega.{arith}
 use lib.ListN.{drop}
 use Rattle.lines.specs.Lines.{decimal, refused_word, refused_line}
 use Rattle.lines.proofs.Fields.{after, start_line}
 use Rattle.buffers.proofs.Writing.{Writing, room-left, room, then, last}
-use borrow.Author.Rules.{rules}
 use Rattle.lines.proofs.refused_line.Goals as goal
 
 pub put_word-next-requires : goal.put_word-next-requires
