@@ -26,6 +26,7 @@ put_field-next-requires c =
     let fields : List (List ℕ) = let s = c.args.sheet.now in
     decimal (lot_count s) ∷ conditions_word ∷ decimal (condition_count s) ∷ terms_word ∷ decimal (record_count s) ∷ [] in
     let Left : List ℕ → ℕ → ℕ → Type 0 = λ out next k. Writing c.args.out.now c.args.at (header_line c.args.sheet.now) out next (after (drop k (fields))) in
+    -- After each word, and after each number.
     let lots-named : Left c.put_word-next.new.out c.put_word-next.result 0 = then (after (fields)) c.put_word-next.ensures (start_line c.args.out.now c.args.at lots_word (fields)) in
     rw (ap (λ (h : Header). h.lots) (counts))
     (room (32 ∷ decimal (lot_count c.args.sheet.now)) _ (lots-named) c.requires.1)

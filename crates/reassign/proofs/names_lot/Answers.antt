@@ -20,6 +20,7 @@ pub term_at-t-requires : goal.term_at-t-requires
 term_at-t-requires c =
     let bytes : List ℕ = c.args.sheet.now in
     let accepted : Accepted (bytes) = c.requires.0.accepted in
+    -- The record is one of the sheet's.
     let record_number : 1 ≤ c.loop-at.at.0 = omega (arith, c.loop-at-test.true) in
     rw c.requires.0.counted
     (has_record (sound (bytes) (accepted)).header c.loop-at.at.0 (record_number) c.loop-at.invariant.on.within)
@@ -30,6 +31,7 @@ returns-then-term_names c =
     let accepted : Accepted (bytes) = c.requires.0.accepted in
     let record_number : 1 ≤ c.loop-at.at.0 = omega (arith, c.loop-at-test.true) in
     let named : Bool = term_names c.args.lot.0 (term_at (bytes) c.loop-at.at.0) in
+    -- Whether the record's term names the lot is what `term_names` answers.
     let answer : named ≡ c.term_names.result = sym
     (c.term_names.ensures
     ∙ ap (λ (t : written.Term). term_names c.args.lot.0 (term_of t.sign t.a.0 t.b.0)) c.term_at-t.ensures) in

@@ -38,6 +38,7 @@ returns-then-ill_lot c =
     -- Where the reader accepts, the sheet is accepted, with its counts.
     let accepted : ReadAs s c.in-Accepted.lots c.in-Accepted.conditions c.in-Accepted.records = read_accepts _ _ _ _ (ap reading_answer (sym c.in-Accepted.is) ∙ c.read-reading.ensures) in
     let long : grouping_verdict s grouping ≡ Passes = all_pass s grouping accepted.accepted (omega (arith, accepted.lots, c.if-grouping-lots.false)) in
+    -- The test is 21's.
     let tested : c.ill_lot.result ≡ ill_lot (lot_count s) lot = c.ill_lot.ensures ∙ ap (λ (n : ℕ). ill_lot n lot) accepted.lots in
     ensured s grouping count lot value (lot-refused s grouping count lot long (sym tested ∙ c.if-ill_lot.true)) refl refl
 
@@ -49,6 +50,7 @@ overflow_cast-lot c =
     let accepted : ReadAs s c.in-Accepted.lots c.in-Accepted.conditions c.in-Accepted.records = read_accepts _ _ _ _ (ap reading_answer (sym c.in-Accepted.is) ∙ c.read-reading.ensures) in
     let tested : c.ill_lot.result ≡ ill_lot (lot_count s) lot = c.ill_lot.ensures ∙ ap (λ (n : ℕ). ill_lot n lot) accepted.lots in
     let passed : ill_lot (lot_count s) lot ≡ false = sym tested ∙ c.if-ill_lot.false in
+    -- The lot is one of 1 to n, so that it fits in 16 bits.
     let within : (1 ≤ lot) × (lot ≤ lot_count s) = lot-within _ _ passed in
     omega (arith, (within).1, (sound s accepted.accepted).header.lots)
 

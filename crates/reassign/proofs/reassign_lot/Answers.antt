@@ -38,6 +38,7 @@ overflow_sub-result c =
     let was : weight.before ≡ unmet_naming s grouping lot = ap (λ (w : Weight). w.before) weighed in
     -- The test is 22's.
     let tested : c.ill_count.result ≡ ill_count (condition_count s) (unmet_naming s grouping lot) c.args.count = c.ill_count.ensures ∙ ap₂ (λ (m before : ℕ). ill_count m before c.args.count) c.requires.sheet.counted was in
+    -- Where 22 passes: the count is at most m, and not below the conditions that are taken away.
     let passed : ill_count (condition_count s) (unmet_naming s grouping lot) c.args.count ≡ false = sym tested ∙ c.if-ill_count.false in
     let within : (c.args.count ≤ condition_count s) × (weight.before ≤ c.args.count) = let (high, low) = count-within _ _ _ passed in (high, omega (arith, low, was)) in
     (within).1

@@ -54,6 +54,7 @@ overflow_add-was c =
     let lot : ℕ = c.args.lot.0 in
     let was_assigned : ℕ → ℕ = number_at c.args.before.now in
     let is_assigned : ℕ → ℕ = number_at c.args.after.now in
+    -- What `weigh_one` answers is what the next condition counts for.
     let answer : c.weigh_one-one.result ≡ weight_of was_assigned is_assigned lot here = c.weigh_one-one.ensures
     ∙ ap (λ (r : ℕ). weight_of was_assigned is_assigned lot (terms_from s r)) c.head_at-head.ensures
     ∙ ap (λ (n : ℕ). weight_of was_assigned is_assigned lot (condition_at s n)) (add-one c.loop-c.c) in

@@ -11,6 +11,7 @@ use Rattle.reassign.proofs.weigh_grouping.Goals as goal
 
 pub number_lots-requires : goal.number_lots-requires
 number_lots-requires c =
+    -- Each lot has an entry.
     let lots_most : c.args.n ≤ most_lots = omega (arith, c.requires.lots, (sound c.args.sheet.now c.requires.sheet.accepted).header.lots) in
     omega (arith, lots_most, c.requires.room)
 

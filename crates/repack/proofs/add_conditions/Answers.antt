@@ -18,12 +18,14 @@ loop-c-init c =
 
 pub overflow_add-c : goal.overflow_add-c
 overflow_add-c c =
+    -- The next condition is one of the sheet's.
     let below : c.loop-c.c < condition_count c.args.sheet.now = omega (arith, c.loop-c-test.true, c.requires.0.counted) in
     omega (arith, below, (sound c.args.sheet.now c.requires.0.accepted).header.conditions)
 
 pub add_condition-next-requires : goal.add_condition-next-requires
 add_condition-next-requires c =
     let below : c.loop-c.c < condition_count c.args.sheet.now = omega (arith, c.loop-c-test.true, c.requires.0.counted) in
+    -- It is the first of those that are left.
     let first : drop c.loop-c.c (conditions c.args.sheet.now) ≡ condition_at c.args.sheet.now (suc c.loop-c.c) ∷ drop (suc c.loop-c.c) (conditions c.args.sheet.now) = conditions_step c.args.sheet.now c.loop-c.c below in
     let one = sym (add-one c.loop-c.c) in (
       c.requires.0,

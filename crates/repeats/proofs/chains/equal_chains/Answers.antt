@@ -18,6 +18,7 @@ loop-p-init c =
 -- The second chain alone is over.
 pub returns-then-q-eq0 : goal.returns-then-q-eq0
 returns-then-q-eq0 c =
+    -- The record of the first chain is one of its sheet's, and past the second test so is that of the second.
     let first-number : 1 ≤ c.loop-p.p.0 = omega (arith, c.loop-p-test.true) in
     sym (second_over c.loop-p.invariant c.requires.0.accepted c.requires.2.accepted first-number c.if-q-eq0.true)
 

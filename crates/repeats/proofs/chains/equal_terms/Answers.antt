@@ -7,6 +7,7 @@ use Rattle.repeats.proofs.chains.equal_terms.Goals as goal
 
 pub returns-then-t-u : goal.returns-then-t-u
 returns-then-t-u c =
+    -- What each test says of the two terms.
     let signs_differ : eqb c.args.t.sign c.args.u.sign ≡ false = ne_eqb _ _ c.if-t-u.true in
     rw (signs_differ)
 

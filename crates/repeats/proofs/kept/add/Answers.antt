@@ -24,6 +24,7 @@ bounds-entries-i c =
 pub add_condition-next-requires : goal.add_condition-next-requires
 add_condition-next-requires c =
     let below : c.loop-i.i < c.args.upto = omega (arith, c.loop-i-test.true) in
+    -- The entry that is read is one of the sheet's, and its condition is the first of those that are left.
     let entry : EntryOf c.args.sheet.now (get_or c.args.entries.now c.loop-i.i 0) = entry_here c.loop-i.invariant.0 (below) in
     let kept_from : ℕ → List (List Term) = λ i. kept_of c.args.sheet.now (slice i c.args.upto c.args.entries.now) in
     let first : kept_from c.loop-i.i ≡ condition_at c.args.sheet.now (number_in (get_or c.args.entries.now c.loop-i.i 0)) ∷ kept_from (suc c.loop-i.i) = ap (kept_of c.args.sheet.now) (entries_step c.loop-i.invariant.0 (below)) in
