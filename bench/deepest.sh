@@ -4,21 +4,20 @@
 # and is called with a sheet of 8,256 terms. (Needs the GNU binutils, and knows how the compiler passes a slice and the reader's answer.)
 set -eu
 cd "$(dirname "$0")/.."
-rt staticlib lihumbay > /dev/null
+tools/archive.sh > /dev/null
 copy=target/deepest
 mkdir -p "$copy"
 cp target/staticlib/liblihumbay.a "$copy/"
-# The reader's answer goes where rdi says: the case, 0 for accepted, and from byte 2 on the three counts. Where rsi points to stands the sheet's address.
+# The reader's answer goes where rdi says: the case, 0 for accepted, and from byte 2 on the three counts. In rsi stands the sheet's address.
 as -o "$copy/reader.o" - <<'END'
-    movq (%rsi), %rax
-    movzwl 4(%rax), %ecx
-    movl (%rax), %eax
+    movzwl 4(%rsi), %ecx
+    movl (%rsi), %eax
     movb $0, (%rdi)
     movl %eax, 2(%rdi)
     movw %cx, 6(%rdi)
     ret
 END
 objcopy -O binary --only-section=.text "$copy/reader.o" "$copy/reader"
-(cd "$copy" && ar x liblihumbay.a lihumbay.o && objcopy --remove-relocations='.text.reader::read' --update-section '.text.reader::read=reader' lihumbay.o && ar r liblihumbay.a lihumbay.o)
+(cd "$copy" && ar x liblihumbay.a lihumbay_c.o && objcopy --remove-relocations='.text.reader::read' --update-section '.text.reader::read=reader' lihumbay_c.o && ar r liblihumbay.a lihumbay_c.o)
 LIHUMBAY_ARCHIVE="$PWD/$copy" cargo build --release -p measure --target-dir "$copy/cargo"
 "$copy/cargo/release/measure" deepest

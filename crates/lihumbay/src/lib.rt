@@ -1,4 +1,4 @@
-// The services for callers in C and Rust: functions over slices, each a pointer and then a length, that answer four numbers.
+// The services, with their answers as four numbers: what callers in C and Rust get. `lihumbay_c` exports each function for them.
 ghost use Rattle.std.specs.Prelude.{◌≡◌, max};
 ghost use Rattle.sheet.specs.Format.{lot_count};
 ghost use Rattle.sheet.specs.Checks.{Accepted};
@@ -24,8 +24,7 @@ ghost use Rattle.lihumbay.specs.Promises.{NineExactlyUnder, OneExactlyUnder, One
 use numbers::Numbers;
 
 // The reader: lots, conditions and term records.
-#[unsafe(no_mangle)]
-pub extern "C" fn lihumbay_read(sheet: &[u8]) -> Numbers
+pub fn lihumbay_read(sheet: &[u8]) -> Numbers
     ensures answer { result ≡ numbers_of (read_answer sheet.now) }
     ensures accepted { ZeroExactly result sheet.now }
 {
@@ -33,8 +32,7 @@ pub extern "C" fn lihumbay_read(sheet: &[u8]) -> Numbers
 }
 
 // The evaluator: 0 where all conditions are met, else the lowest that isn't.
-#[unsafe(no_mangle)]
-pub extern "C" fn lihumbay_evaluate(sheet: &[u8], grouping: &[u8]) -> Numbers
+pub fn lihumbay_evaluate(sheet: &[u8], grouping: &[u8]) -> Numbers
     ensures answer { result ≡ numbers_of (evaluate_answer sheet.now grouping.now) }
     ensures meaning { FirstUnmet result sheet.now grouping.now }
 {
@@ -42,8 +40,7 @@ pub extern "C" fn lihumbay_evaluate(sheet: &[u8], grouping: &[u8]) -> Numbers
 }
 
 // The count of unmet conditions.
-#[unsafe(no_mangle)]
-pub extern "C" fn lihumbay_count_unmet(sheet: &[u8], grouping: &[u8]) -> Numbers
+pub fn lihumbay_count_unmet(sheet: &[u8], grouping: &[u8]) -> Numbers
     ensures answer { result ≡ numbers_of (count_answer sheet.now grouping.now) }
     ensures meaning { UnmetCounted result sheet.now grouping.now }
 {
@@ -51,8 +48,7 @@ pub extern "C" fn lihumbay_count_unmet(sheet: &[u8], grouping: &[u8]) -> Numbers
 }
 
 // A lot gets another number: the new count of unmet conditions.
-#[unsafe(no_mangle)]
-pub extern "C" fn lihumbay_reassign(
+pub fn lihumbay_reassign(
     sheet: &[u8],
     grouping: &mut [u8],
     count: u32,
@@ -68,8 +64,7 @@ pub extern "C" fn lihumbay_reassign(
 }
 
 // The search: 1 for met or 2 for cannot, and the count of records.
-#[unsafe(no_mangle)]
-pub extern "C" fn lihumbay_search(sheet: &[u8], grouping: &mut [u8], store: &mut [u8]) -> Numbers
+pub fn lihumbay_search(sheet: &[u8], grouping: &mut [u8], store: &mut [u8]) -> Numbers
     ensures answer { result ≡ numbers_of (search_outcome sheet.now grouping.old store.old).answer }
     ensures grouping { grouping.new ≡ (search_outcome sheet.now grouping.old store.old).grouping }
     ensures store { store.new ≡ (search_outcome sheet.now grouping.old store.old).store }
@@ -86,8 +81,7 @@ pub extern "C" fn lihumbay_search(sheet: &[u8], grouping: &mut [u8], store: &mut
 }
 
 // The refutation checker: no value where the list passes.
-#[unsafe(no_mangle)]
-pub extern "C" fn lihumbay_check(sheet: &[u8], list: &[u8]) -> Numbers
+pub fn lihumbay_check(sheet: &[u8], list: &[u8]) -> Numbers
     ensures answer { result ≡ numbers_of (check_answer sheet.now list.now) }
     ensures passed { ZeroPassed result sheet.now list.now }
     ensures meaning { ZeroMeans result sheet.now }
@@ -96,8 +90,7 @@ pub extern "C" fn lihumbay_check(sheet: &[u8], list: &[u8]) -> Numbers
 }
 
 // The search under a limit on the classes: as the search.
-#[unsafe(no_mangle)]
-pub extern "C" fn lihumbay_search_limited(
+pub fn lihumbay_search_limited(
     sheet: &[u8],
     limit: u32,
     grouping: &mut [u8],
@@ -118,8 +111,7 @@ pub extern "C" fn lihumbay_search_limited(
 }
 
 // The refutation checker under a limit on the classes: as the checker.
-#[unsafe(no_mangle)]
-pub extern "C" fn lihumbay_check_limited(sheet: &[u8], limit: u32, list: &[u8]) -> Numbers
+pub fn lihumbay_check_limited(sheet: &[u8], limit: u32, list: &[u8]) -> Numbers
     ensures answer { result ≡ numbers_of (limited_check_answer sheet.now limit list.now) }
     ensures passed { ZeroPassedUnder (up_to limit) result sheet.now list.now }
     ensures meaning { ZeroMeansUnder (up_to limit) result sheet.now }
@@ -128,8 +120,7 @@ pub extern "C" fn lihumbay_check_limited(sheet: &[u8], limit: u32, list: &[u8]) 
 }
 
 // Repacking: how many bytes of the output were written.
-#[unsafe(no_mangle)]
-pub extern "C" fn lihumbay_repack(sheet: &[u8], out: &mut [u8]) -> Numbers
+pub fn lihumbay_repack(sheet: &[u8], out: &mut [u8]) -> Numbers
     ensures answer { result ≡ numbers_of (repack_answer sheet.now out.old) }
     ensures output { out.new ≡ repack_out sheet.now out.old }
     ensures says { ZeroWritten (λ w. Alike w sheet.now) result out.new }
@@ -140,8 +131,7 @@ pub extern "C" fn lihumbay_repack(sheet: &[u8], out: &mut [u8]) -> Numbers
 }
 
 // Merging: how many bytes of the output were written. A refusal from reading has 1 or 2 behind the place, for the sheet that it came from.
-#[unsafe(no_mangle)]
-pub extern "C" fn lihumbay_merge(first: &[u8], second: &[u8], out: &mut [u8]) -> Numbers
+pub fn lihumbay_merge(first: &[u8], second: &[u8], out: &mut [u8]) -> Numbers
     ensures answer { result ≡ merge_numbers (merge_answer has_terms first.now second.now out.old)
         (which_refused first.now second.now) }
     ensures output { out.new ≡ merge_out has_terms first.now second.now out.old }

@@ -1,4 +1,6 @@
 // The visits of a search: a node and all under it, a split and its branches, from no decisions on.
+#![tactic(auto)]
+
 ghost use Rattle.std.specs.Prelude.{◌≡◌, ◌+◌, ◌<◌, length};
 ghost use Rattle.sheet.specs.Conditions.{conditions};
 ghost use Rattle.limit.specs.Scan.{limit_of};

@@ -10,9 +10,9 @@ use std::process::{Command, Stdio};
 
 const TEXT: &str = include_str!("../../../docs/FORMAT.md");
 
-/// The printing program, as `rt` builds it.
+/// The printing program, where `rt` leaves it.
 fn program() -> PathBuf {
-    Path::new(env!("CARGO_MANIFEST_DIR")).join("../../target/bin/print_search")
+    Path::new(env!("CARGO_MANIFEST_DIR")).join("../../crates/print_search/out/print_search")
 }
 
 fn printed(sheet: &[u8]) -> Vec<u8> {
@@ -91,7 +91,7 @@ fn calls_are_answered_as_the_page_says() {
     let page = Page::of(TEXT);
     let there = program().exists();
     if !there {
-        say("SKIPPED: the printed texts of docs/FORMAT.md, since `rt check print_search` has not built the program");
+        say("SKIPPED: the printed texts of docs/FORMAT.md, since `rt run` in crates/print_search has not built the program");
     }
     for call in page.calls.iter().filter(|call| there || call.service != "print") {
         assert_eq!(answered(call), call.answer, "{}", call.text);
