@@ -26,16 +26,18 @@ module _ (s t out : List ℕ) where
   -- Of the answer, of the sheet that it names, and of the output.
   abbrev pub Equations : MergeAnswer → List ℕ → Type 0
   Equations r out' =
-      (merged_answer r ≡ merge_answer has_terms s t out)
-      × ((sheet_refused r ≡ which_refused s t)
-      × (out' ≡ merge_out has_terms s t out))
+      record {
+        answer : merged_answer r ≡ merge_answer has_terms s t out;
+        sheet : sheet_refused r ≡ which_refused s t;
+        output : out' ≡ merge_out has_terms s t out;
+      }
 
   -- The verdict decides.
   pub equations : (v : Verdict) → merge_verdict has_terms s t out ≡ v → (r : MergeAnswer) (out' : List ℕ)
       → merged_answer r ≡ answer_by has_terms s t v → sheet_refused r ≡ which_refused s t → out' ≡ output_after (answer_by has_terms s t v) (merged has_terms s t) out
       → Equations r out'
   equations v e r out' told sheet left =
-      (told ∙ sym (answer_by_lem has_terms s t out v e), (sheet, left ∙ sym (output_by has_terms s t out v e)))
+      record { answer = told ∙ sym (answer_by_lem has_terms s t out v e); sheet = sheet; output = left ∙ sym (output_by has_terms s t out v e) }
 
   -- ---- what is written
 
@@ -57,41 +59,38 @@ module _ (s t out : List ℕ) where
 
   abbrev pub Ensured : MergeAnswer → List ℕ → Type 0
   Ensured r out' =
-      (merged_answer r ≡ merge_answer has_terms s t out)
-      × ((sheet_refused r ≡ which_refused s t)
-      × ((out' ≡ merge_out has_terms s t out)
-      × (OfWritten (λ w. Accepted w) (merged_answer r) out'
-      × (OfWritten (λ w. repacked w ≡ w) (merged_answer r) out'
-      × (OfWritten (λ w. lot_count w ≡ max (lot_count s) (lot_count t)) (merged_answer r) out'
-      × (OfWritten (λ w. conditions w ≡ merged_conditions has_terms s t) (merged_answer r) out'
-      × (OfWritten (λ w. MeetsBoth w s t) (merged_answer r) out'
-      × OfWritten (λ w. Placed w s t) (merged_answer r) out')))))))
+      record {
+        answer : merged_answer r ≡ merge_answer has_terms s t out;
+        sheet : sheet_refused r ≡ which_refused s t;
+        output : out' ≡ merge_out has_terms s t out;
+        accepted : OfWritten (λ w. Accepted w) (merged_answer r) out';
+        packed : OfWritten (λ w. repacked w ≡ w) (merged_answer r) out';
+        lots : OfWritten (λ w. lot_count w ≡ max (lot_count s) (lot_count t)) (merged_answer r) out';
+        conditions : OfWritten (λ w. conditions w ≡ merged_conditions has_terms s t) (merged_answer r) out';
+        meets : OfWritten (λ w. MeetsBoth w s t) (merged_answer r) out';
+        places : OfWritten (λ w. Placed w s t) (merged_answer r) out';
+      }
 
   pub ensured : (r : MergeAnswer) (out' : List ℕ) → Equations r out' → Ensured r out'
-  ensured r out' (answer, (sheet, output)) =
-      let a = merged_answer r in (
-        answer,
-        (
-          sheet,
-          (
-            output,
-            rw output (
-              of_written (λ w. Accepted w) (λ n l. merged-accepted has_terms s t l.first l.second l.few l.short) a answer,
-              (
-                of_written (λ w. repacked w ≡ w) (λ n l. merged-packed has_terms s t l.first l.second l.few l.short) a answer,
-                (
-                  of_written (λ w. lot_count w ≡ max (lot_count s) (lot_count t)) (λ n l. merged-lots has_terms s t l.first l.second l.few l.short) a answer,
-                  (
-                    of_written (λ w. conditions w ≡ merged_conditions has_terms s t) (λ n l. merged-conditions has_terms s t l.first l.second l.few l.short) a answer,
-                    (
-                      of_written (λ w. MeetsBoth w s t) (λ n l f. merged-meets has_terms s t l.first l.second l.few l.short f) a answer,
-                      of_written (λ w. Placed w s t)
-                          (λ n l. placed (merged has_terms s t) s t (merged-conditions has_terms s t l.first l.second l.few l.short)) a answer,
-                    ),
-                  ),
-                ),
-              ),
-            ),
-          ),
-        ),
-      )
+  ensured r out' e =
+      let a = merged_answer r in
+      let answer = e.answer in
+      let output = e.output in
+      record {
+        answer = answer;
+        sheet = e.sheet;
+        output = output;
+        accepted = rw output (of_written (λ w. Accepted w) (λ n l. merged-accepted has_terms s t l.first l.second l.few l.short) a answer);
+        packed = rw output (of_written (λ w. repacked w ≡ w) (λ n l. merged-packed has_terms s t l.first l.second l.few l.short) a answer);
+        lots =
+            rw output
+            (of_written (λ w. lot_count w ≡ max (lot_count s) (lot_count t)) (λ n l. merged-lots has_terms s t l.first l.second l.few l.short) a answer);
+        conditions =
+            rw output
+            (of_written (λ w. conditions w ≡ merged_conditions has_terms s t) (λ n l. merged-conditions has_terms s t l.first l.second l.few l.short) a answer);
+        meets = rw output (of_written (λ w. MeetsBoth w s t) (λ n l f. merged-meets has_terms s t l.first l.second l.few l.short f) a answer);
+        places =
+            rw output
+            (of_written (λ w. Placed w s t)
+            (λ n l. placed (merged has_terms s t) s t (merged-conditions has_terms s t l.first l.second l.few l.short)) a answer);
+      }

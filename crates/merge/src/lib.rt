@@ -1,5 +1,7 @@
 // Merging: two accepted sheets become one, which has the conditions of the first and then those of the second, without repeats, and with all that are
 // withdrawn.
+#![tactic(auto)]
+
 ghost use Rattle.std.specs.Prelude.{◌≡◌, max};
 ghost use Rattle.sheet.specs.Format.{lot_count};
 ghost use Rattle.sheet.specs.Checks.{Accepted};

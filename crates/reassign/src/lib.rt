@@ -1,4 +1,6 @@
 // A lot given another number in a grouping, with the count of unmet conditions kept up: only the conditions that name the lot are weighed.
+#![tactic(auto)]
+
 ghost use Rattle.std.specs.Prelude.{◌≡◌};
 ghost use Rattle.sheet.specs.Conditions.{term_of, terms_from, conditions};
 ghost use Rattle.sheet.specs.Inner.{HasConditions, OnChain};

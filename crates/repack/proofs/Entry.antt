@@ -20,11 +20,13 @@ module _ (s out : List ℕ) where
 
   abbrev pub Ensured : WriteAnswer → List ℕ → Type 0
   Ensured r out' =
-      (written_answer r ≡ repack_answer s out)
-      × ((out' ≡ repack_out s out)
-      × (OfWritten (λ w. Alike w s) (written_answer r) out'
-      × (OfWritten (λ w. repacked w ≡ w) (written_answer r) out'
-      × OfWritten (λ w. ServedAlike w s) (written_answer r) out')))
+      record {
+        answer : written_answer r ≡ repack_answer s out;
+        output : out' ≡ repack_out s out;
+        says : OfWritten (λ w. Alike w s) (written_answer r) out';
+        again : OfWritten (λ w. repacked w ≡ w) (written_answer r) out';
+        alike : OfWritten (λ w. ServedAlike w s) (written_answer r) out';
+      }
 
   -- The verdict decides.
   pub ensured : (v : Verdict) → repack_verdict s out ≡ v → (r : WriteAnswer) (out' : List ℕ)
@@ -32,13 +34,11 @@ module _ (s out : List ℕ) where
   ensured v e r out' told left =
       let a = written_answer r in
       let answer = told ∙ sym (answer_by_lem s out v e) in
-      let output = left ∙ sym (output_by s out v e) in (
-        answer,
-        (
-          output,
-          rw output (
-            of_written (λ w. Alike w s) (repacked_alike s) a answer,
-            (of_written (λ w. repacked w ≡ w) (repacked-again s) a answer, of_written (λ w. ServedAlike w s) (repacked_served s) a answer),
-          ),
-        ),
-      )
+      let output = left ∙ sym (output_by s out v e) in
+      record {
+        answer = answer;
+        output = output;
+        says = rw output (of_written (λ w. Alike w s) (repacked_alike s) a answer);
+        again = rw output (of_written (λ w. repacked w ≡ w) (repacked-again s) a answer);
+        alike = rw output (of_written (λ w. ServedAlike w s) (repacked_served s) a answer);
+      }

@@ -1,4 +1,6 @@
 // Repacking: an accepted sheet is written into another buffer in the one order of canonical sheets.
+#![tactic(auto)]
+
 ghost use mathlib.Core.List.{flatten};
 ghost use Rattle.std.specs.Prelude.{◌≡◌, length};
 ghost use Rattle.sheet.specs.Format.{record_count};

@@ -8,7 +8,7 @@ use native.Mathlib.Omega.{arith}
 use lib.ListN.{length, length-map}
 use Rattle.sheet.specs.Format.{most_lots, most_records, apart_sign, record_count, sign_at, first_lot_at, second_lot_at, next_at}
 use Rattle.sheet.specs.Checks.{Accepted}
-use Rattle.sheet.specs.Conditions.{Term, term_at, chain, records_from, terms_from}
+use Rattle.sheet.specs.Conditions.{Term, sign_of, first_lot, second_lot, term_at, chain, records_from, terms_from}
 use Rattle.sheet.specs.Inner.{OnChain}
 use Rattle.sheet.proofs.Accepted.{sound}
 use Rattle.sheet.proofs.ChainEnds.{terms_end, terms_step, next-on, on_sound}
@@ -23,7 +23,7 @@ fields-small d sign a b = mod-lt _ (omega arith)
 from_small : (d : ℕ) (ts : List Term) → d < digest_limit → digest_from d ts < digest_limit
 unfolding digest_from
 from_small d [] h = h
-from_small d (t ∷ ts) h = from_small _ ts (fields-small d _ _ _)
+from_small d (t ∷ ts) h = from_small (digest_fields d (sign_of t) (first_lot t) (second_lot t)) ts (fields-small d _ _ _)
 
 pub digest-small : (ts : List Term) → digest_of ts < digest_limit
 digest-small ts = from_small 0 ts (omega arith)

@@ -14,6 +14,7 @@ use Rattle.counter.proofs.count_accepted.Goals as goal
 
 pub number_lots-requires : goal.number_lots-requires
 number_lots-requires c =
+    -- Each lot has an entry.
     let lots_most : c.args.n ≤ most_lots = omega (arith, c.requires.1, (sound c.args.sheet.now c.requires.0.accepted).header.lots) in
     omega (arith, lots_most, c.requires.2)
 

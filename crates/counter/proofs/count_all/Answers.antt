@@ -50,6 +50,7 @@ overflow_add-count c =
     let facts : Sound s = sound s c.requires.sheet.accepted in
     -- The next condition is one of the sheet's.
     let below : c.loop-c.c < condition_count s = omega (arith, c.loop-c-test.true, c.requires.sheet.counted) in
+    -- What `unmet_one` answers is what the next condition counts for.
     let answer : c.unmet_one-count.result ≡ unmet_one assigned (condition_at s (suc c.loop-c.c)) = c.unmet_one-count.ensures
     ∙ ap (λ (r : ℕ). unmet_one assigned (terms_from s r)) c.head_at-head.ensures
     ∙ ap (λ (n : ℕ). unmet_one assigned (condition_at s n)) (add-one c.loop-c.c) in

@@ -24,6 +24,7 @@ pub overflow_add-c : goal.overflow_add-c
 overflow_add-c c =
     let s : List ℕ = c.args.sheet.now in
     let facts : Sound s = sound s c.requires.sheet.accepted in
+    -- The next condition is one of the sheet's.
     let below : c.loop-c.c < condition_count s = omega (arith, c.loop-c-test.true, c.requires.sheet.counted) in
     omega (arith, below, facts.header.conditions)
 
@@ -47,6 +48,7 @@ returns-then-not-is_met c =
     let s : List ℕ = c.args.sheet.now in
     let assigned : ℕ → ℕ = number_at c.args.numbers.now in
     let below : c.loop-c.c < condition_count s = omega (arith, c.loop-c-test.true, c.requires.sheet.counted) in
+    -- What `is_met` answers is whether the next condition is met.
     let answer : c.is_met.result ≡ meets_condition assigned (condition_at s (suc c.loop-c.c)) = c.is_met.ensures
     ∙ ap (λ (r : ℕ). meets_condition assigned (terms_from s r)) c.head_at-head.ensures
     ∙ ap (λ (n : ℕ). meets_condition assigned (condition_at s n)) (add-one c.loop-c.c) in

@@ -34,6 +34,7 @@ pub term_at-t-requires : goal.term_at-t-requires
 term_at-t-requires c =
     let bytes : List ℕ = c.args.sheet.now in
     let accepted : Accepted bytes = c.requires.0.sheet.accepted in
+    -- The record is one of the sheet's.
     let record_number : 1 ≤ c.loop-at.at.0 = omega (arith, c.loop-at-test.true) in
     -- At each turn it has passed no more terms than stand before the first true one, so that the term which it reads is that one or stands before it.
     let reads_no_further : length c.loop-at.invariant.0.passed ≤ before_first_true (number_at c.args.numbers.now) (terms_from bytes c.args.head.0) =
@@ -60,9 +61,11 @@ loop-at-preserved c =
     let record_number : 1 ≤ c.loop-at.at.0 = omega (arith, c.loop-at-test.true) in
     let assigned : ℕ → ℕ = number_at c.args.numbers.now in
     let truth : Bool = holds assigned (term_at bytes c.loop-at.at.0) in
+    -- Whether the record's term is true is what `is_true` answers.
     let answer : truth ≡ c.is_true-met.result = sym
     (c.is_true-met.ensures
     ∙ ap (λ (t : written.Term). holds assigned (term_of t.sign t.a.0 t.b.0)) c.term_at-t.ensures) in
+    -- A term that the loop passes is false.
     let passed_false : truth ≡ false = answer ∙ c.if-met.false in
     let ok = accepted in (
       rw c.term_at-t.ensures (passing_next _ _ ok _ _ c.loop-at.invariant.0 record_number passed_false),
@@ -89,6 +92,7 @@ returns-then-met c =
     let answer : truth ≡ c.is_true-met.result = sym
     (c.is_true-met.ensures
     ∙ ap (λ (t : written.Term). holds assigned (term_of t.sign t.a.0 t.b.0)) c.term_at-t.ensures) in
+    -- One that it leaves at is true.
     let left_at_true : truth ≡ true = answer ∙ c.if-met.true in
     -- The term that the loop leaves at is the first true one: those before it are passed, and no other.
     let leaves_at_first_true : length c.loop-at.invariant.0.passed ≡ before_first_true assigned (terms_from bytes c.args.head.0) =

@@ -1,7 +1,7 @@
 -- `lines::header_line` meets its contract: the words and the numbers in turn, and the line's end.
 use Prim.Native.Nat.{ℕ}
 use mathlib.Core.List.{List, [], ◌∷◌}
-use mathlib.Core.Path.{◌≡◌, ap, ◌∙◌}
+use mathlib.Core.Path.{◌≡◌, ap}
 use native.Mathlib.Omega.{arith}
 use lib.ListN.{drop}
 use Rattle.sheet.specs.Format.{lot_count, condition_count, record_count}
@@ -10,7 +10,6 @@ use Rattle.sheet.specs.Inner.{header_at}
 use Rattle.lines.specs.Lines.{decimal, lots_word, conditions_word, terms_word, header_line}
 use Rattle.lines.proofs.Fields.{after, start_line}
 use Rattle.buffers.proofs.Writing.{Writing, room-left, room, then, last}
-use borrow.Author.Rules.{rules}
 use Rattle.lines.proofs.header_line.Goals as goal
 
 pub put_word-next-requires : goal.put_word-next-requires
@@ -27,6 +26,7 @@ put_field-next-requires c =
     let fields : List (List ℕ) = let s = c.args.sheet.now in
     decimal (lot_count s) ∷ conditions_word ∷ decimal (condition_count s) ∷ terms_word ∷ decimal (record_count s) ∷ [] in
     let Left : List ℕ → ℕ → ℕ → Type 0 = λ out next k. Writing c.args.out.now c.args.at (header_line c.args.sheet.now) out next (after (drop k (fields))) in
+    -- After each word, and after each number.
     let lots-named : Left c.put_word-next.new.out c.put_word-next.result 0 = then (after (fields)) c.put_word-next.ensures (start_line c.args.out.now c.args.at lots_word (fields)) in
     rw (ap (λ (h : Header). h.lots) (counts))
     (room (32 ∷ decimal (lot_count c.args.sheet.now)) _ (lots-named) c.requires.1)

@@ -1,14 +1,10 @@
-use Prim.Native.Nat.{ℕ, suc, ◌-◌, ◌≤◌}
-use mathlib.Core.List.{[], ◌∷◌, ◌++◌, map}
-use mathlib.Core.Path.{◌≡◌, ap, ◌∙◌}
-use native.Mathlib.Numerals.{add-one}
-use native.Mathlib.Omega.{arith}
-use lib.ListN.{take, get_or}
-use lib.Seq.{slice, slice-cons, slice_empty}
-use Rattle.lines.specs.Lines.{decimal, met_word, met_line}
-use Rattle.lines.proofs.Fields.{after, start_line}
-use Rattle.buffers.proofs.Writing.{Writing, start, room-left, room, then, last}
-use borrow.Author.Rules.{rules}
+use Prim.Native.Nat.{◌-◌, ◌≤◌}
+use mathlib.Core.List.{map}
+use lib.ListN.{take}
+use lib.Seq.{slice}
+use Rattle.lines.specs.Lines.{decimal}
+use Rattle.lines.proofs.Fields.{after}
+use Rattle.buffers.proofs.Writing.{Writing}
 use Rattle.lines.proofs.met_line.Given as goal
 
 abbrev pub invariant-loop-i : goal.invariant-loop-i

@@ -6,7 +6,6 @@ use lib.ListN.{drop}
 use Rattle.lines.specs.Lines.{decimal, line}
 use Rattle.lines.proofs.Fields.{after, start_line}
 use Rattle.buffers.proofs.Writing.{Writing, room-left, room, then, last}
-use borrow.Author.Rules.{rules}
 use Rattle.lines.proofs.number_line.Goals as goal
 
 pub put_word-next-requires : goal.put_word-next-requires
@@ -17,6 +16,7 @@ pub put_field-next-requires : goal.put_field-next-requires
 put_field-next-requires c =
     let Left : List ℕ → ℕ → ℕ → Type 0 = λ out next k. Writing c.args.out.now c.args.at (line c.args.word.now (decimal c.args.x ∷ []))
     out next (after (drop k (decimal c.args.x ∷ []))) in
+    -- After the word, and after the number.
     let named : Left c.put_word-next.new.out c.put_word-next.result 0 = let a = c.args in
     then (after (decimal a.x ∷ [])) c.put_word-next.ensures (start_line a.out.now a.at a.word.now (decimal a.x ∷ [])) in
     room (32 ∷ decimal c.args.x) _ (named) c.requires

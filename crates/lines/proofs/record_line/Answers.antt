@@ -1,7 +1,6 @@
 -- `lines::record_line` meets its contract: each arm writes the line that the definition gives that record, which for the last two is none.
 use Rattle.lines.specs.Lines.{record_line}
 use Rattle.buffers.proofs.Writing.{nothing}
-use borrow.Author.Rules.{rules}
 use Rattle.lines.proofs.record_line.Goals as goal
 
 pub split_line-requires : goal.split_line-requires

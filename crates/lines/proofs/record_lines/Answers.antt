@@ -1,16 +1,14 @@
 -- `lines::record_lines` meets its contract. The loop's invariant: what is left to write is the lines of the records after the first `done`,
 -- and `done` is at most the count. The measure is the records that are left.
-use Prim.Native.Nat.{ℕ, ◌+◌, ◌-◌, ◌≤◌}
+use Prim.Native.Nat.{ℕ, ◌+◌}
 use mathlib.Core.List.{[]}
 use mathlib.Core.Path.{◌≡◌, ap, ◌∙◌}
 use native.Mathlib.Nat.{sub-zero}
 use native.Mathlib.Omega.{arith}
 use Rattle.store.specs.Records.{record_at}
 use Rattle.lines.specs.Lines.{record_line, record_lines}
-use Rattle.lines.specs.Code.{first_records}
 use Rattle.lines.proofs.Fields.{records_left, lines_step, lines_end}
-use Rattle.buffers.proofs.Writing.{Writing, start, room, then, whole}
-use borrow.Author.Rules.{rules}
+use Rattle.buffers.proofs.Writing.{start, room, then, whole}
 use Rattle.lines.proofs.record_lines.Goals as goal
 
 pub loop-done-init : goal.loop-done-init

@@ -1,14 +1,12 @@
 -- `lines::split_line` meets its contract: the word, the three numbers and the line's end, one after the other.
 use Prim.Native.Nat.{ℕ}
 use mathlib.Core.List.{List, [], ◌∷◌}
-use mathlib.Core.Path.{◌∙◌}
 use native.Mathlib.Omega.{arith}
 use lib.ListN.{drop}
 use Rattle.store.specs.Records.{split_record}
 use Rattle.lines.specs.Lines.{decimal, split_word, record_line}
 use Rattle.lines.proofs.Fields.{after, start_line}
 use Rattle.buffers.proofs.Writing.{Writing, room-left, room, then, last}
-use borrow.Author.Rules.{rules}
 use Rattle.lines.proofs.split_line.Goals as goal
 
 pub put_word-next-requires : goal.put_word-next-requires
@@ -23,6 +21,7 @@ put_field-next-requires c =
     let numbers : List (List ℕ) = decimal c.args.a.0 ∷ decimal c.args.b.0 ∷ decimal c.args.second.0 ∷ [] in
     let Left : List ℕ → ℕ → ℕ → Type 0 = λ out next k. Writing c.args.out.now c.args.at (record_line (split_record c.args.a.0 c.args.b.0 c.args.second.0))
     out next (after (drop k (numbers))) in
+    -- After the word, and after each of the numbers.
     let named : Left c.put_word-next.new.out c.put_word-next.result 0 = then (after (numbers)) c.put_word-next.ensures (start_line c.args.out.now c.args.at split_word (numbers)) in
     room (32 ∷ decimal c.args.a.0) _ (named) c.requires
 

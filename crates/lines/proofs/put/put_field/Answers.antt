@@ -1,7 +1,6 @@
 -- `put::put_field` meets its contract: the space, and then the number.
 use Rattle.lines.specs.Lines.{decimal}
 use Rattle.buffers.proofs.Writing.{start, then, last}
-use borrow.Author.Rules.{rules}
 use Rattle.lines.proofs.put.put_field.Goals as goal
 
 pub returns : goal.returns

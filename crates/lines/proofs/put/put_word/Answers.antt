@@ -1,6 +1,6 @@
 -- `put::put_word` meets its contract. The loop's invariant: what is left to write is the word from byte i on, and i is at most its length.
 -- The measure is what is left of the word.
-use Prim.Native.Nat.{ℕ, suc, ◌+◌, ◌-◌, ◌≤◌}
+use Prim.Native.Nat.{ℕ, suc, ◌+◌}
 use mathlib.Core.List.{[]}
 use mathlib.Core.Path.{◌≡◌, ap, ◌∙◌}
 use native.Mathlib.Nat.{add-zero, add_assoc}
@@ -8,8 +8,7 @@ use native.Mathlib.Numerals.{add-one}
 use native.Mathlib.Omega.{arith}
 use lib.ListN.{length, drop, get_or}
 use lib.Seq.{drop-cons, drop-length}
-use Rattle.buffers.proofs.Writing.{Writing, one, start, then, whole}
-use borrow.Author.Rules.{rules}
+use Rattle.buffers.proofs.Writing.{one, start, then, whole}
 use Rattle.lines.proofs.put.put_word.Goals as goal
 
 pub loop-i-init : goal.loop-i-init

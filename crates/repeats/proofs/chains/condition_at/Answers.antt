@@ -1,5 +1,3 @@
--- `repeats::chains::condition_at`: the digest and the number of the terms so far, with those that are left, come to those of all; what is left of the chain
--- falls.
 use Prim.Native.Nat.{◌≤◌, ◌<◌}
 use mathlib.Core.Path.{sym, ap, subst, ◌∙◌}
 use native.Mathlib.Omega.{arith}
@@ -10,8 +8,7 @@ use Rattle.sheet.specs.Inner.{OnChain}
 use Rattle.sheet.proofs.Accepted.{has_record, sound}
 use Rattle.sheet.proofs.ChainEnds.{head-on, rest_shorter}
 use Rattle.repeats.specs.Inner.{digest_of}
-use Rattle.repeats.proofs.Digesting.{Digesting, digesting_start, small-fields, one_more, digesting_next, digest-whole, terms-whole}
-use borrow.Author.Rules.{rules}
+use Rattle.repeats.proofs.Digesting.{digesting_start, small-fields, one_more, digesting_next, digest-whole, terms-whole}
 use Rattle.repeats.proofs.chains.condition_at.Goals as goal
 
 pub head_at-head-requires : goal.head_at-head-requires

@@ -1,15 +1,8 @@
-use Prim.Native.Nat.{◌≤◌, ◌<◌}
-use mathlib.Core.Path.{sym, ap, subst, ◌∙◌}
-use native.Mathlib.Omega.{arith}
+-- `repeats::chains::condition_at`: the digest and the number of the terms so far, with those that are left, come to those of all; what is left of the chain
+-- falls.
 use lib.ListN.{length}
-use Rattle.sheet.specs.declared.Term.{Term}
-use Rattle.sheet.specs.Conditions.{terms_from, records_from}
-use Rattle.sheet.specs.Inner.{OnChain}
-use Rattle.sheet.proofs.Accepted.{has_record, sound}
-use Rattle.sheet.proofs.ChainEnds.{head-on, rest_shorter}
-use Rattle.repeats.specs.Inner.{digest_of}
-use Rattle.repeats.proofs.Digesting.{Digesting, digesting_start, small-fields, one_more, digesting_next, digest-whole, terms-whole}
-use borrow.Author.Rules.{rules}
+use Rattle.sheet.specs.Conditions.{records_from}
+use Rattle.repeats.proofs.Digesting.{Digesting}
 use Rattle.repeats.proofs.chains.condition_at.Given as goal
 
 abbrev pub invariant-loop-at : goal.invariant-loop-at

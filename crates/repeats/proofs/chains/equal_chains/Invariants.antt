@@ -1,16 +1,7 @@
-use Prim.Native.Nat.{◌≤◌, ◌<◌}
-use mathlib.Core.Path.{◌≡◌, sym, ap₂, subst, ◌∙◌}
-use native.Mathlib.Omega.{arith}
-use borrow.Author.Tests.{not-true, not-false}
+-- `repeats::chains::equal_chains`: what is left of the two chains decides; what is left of the first falls.
 use lib.ListN.{length}
-use Rattle.sheet.specs.declared.Term.{Term}
-use Rattle.sheet.specs.Conditions.{term_at, records_from}
-use Rattle.sheet.proofs.Accepted.{has_record, sound}
-use Rattle.sheet.proofs.ChainEnds.{rest_shorter}
-use Rattle.repeats.specs.Repeats.{equal_terms}
-use Rattle.repeats.specs.Inner.{equal_fields}
-use Rattle.repeats.proofs.Comparing.{Comparing, comparing_start, first_over, second_over, compared, terms_differ, comparing_next}
-use borrow.Author.Rules.{rules}
+use Rattle.sheet.specs.Conditions.{records_from}
+use Rattle.repeats.proofs.Comparing.{Comparing}
 use Rattle.repeats.proofs.chains.equal_chains.Given as goal
 
 abbrev pub invariant-loop-p : goal.invariant-loop-p

@@ -3,11 +3,11 @@ use mathlib.Core.Bool.{true, false}
 use mathlib.Core.Path.{◌≡◌}
 use borrow.Author.Tests.{eq-eqb, ne_eqb}
 use lib.Dec.{eqb}
-use borrow.Author.Rules.{rules}
 use Rattle.repeats.proofs.chains.equal_terms.Goals as goal
 
 pub returns-then-t-u : goal.returns-then-t-u
 returns-then-t-u c =
+    -- What each test says of the two terms.
     let signs_differ : eqb c.args.t.sign c.args.u.sign ≡ false = ne_eqb _ _ c.if-t-u.true in
     rw (signs_differ)
 

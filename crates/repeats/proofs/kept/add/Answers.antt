@@ -1,5 +1,4 @@
--- `repeats::kept::add`: the conditions of the entries that are left, added to what there is now, come to all of them.
-use Prim.Native.Nat.{ℕ, suc, ◌-◌, ◌<◌}
+use Prim.Native.Nat.{ℕ, suc, ◌<◌}
 use mathlib.Core.List.{List, ◌∷◌}
 use mathlib.Core.Path.{◌≡◌, sym, ap, subst}
 use native.Mathlib.Numerals.{add-one}
@@ -8,10 +7,9 @@ use lib.ListN.{length, get_or}
 use lib.Seq.{slice}
 use Rattle.sheet.specs.Conditions.{Term, condition_at}
 use Rattle.writer.specs.Drafts.{draft, RoomFor}
-use Rattle.writer.proofs.Packing.{Packing, packing_start, packing_room, packing_next, packing_end}
-use Rattle.repeats.specs.Inner.{EntryOf, number_in, kept_of, EntriesOf}
+use Rattle.writer.proofs.Packing.{packing_start, packing_room, packing_next, packing_end}
+use Rattle.repeats.specs.Inner.{EntryOf, number_in, kept_of}
 use Rattle.repeats.proofs.Entries.{entries_step, entry_here, entries_next, entries_end}
-use borrow.Author.Rules.{rules}
 use Rattle.repeats.proofs.kept.add.Goals as goal
 
 pub loop-i-init : goal.loop-i-init
@@ -26,6 +24,7 @@ bounds-entries-i c =
 pub add_condition-next-requires : goal.add_condition-next-requires
 add_condition-next-requires c =
     let below : c.loop-i.i < c.args.upto = omega (arith, c.loop-i-test.true) in
+    -- The entry that is read is one of the sheet's, and its condition is the first of those that are left.
     let entry : EntryOf c.args.sheet.now (get_or c.args.entries.now c.loop-i.i 0) = entry_here c.loop-i.invariant.0 (below) in
     let kept_from : ℕ → List (List Term) = λ i. kept_of c.args.sheet.now (slice i c.args.upto c.args.entries.now) in
     let first : kept_from c.loop-i.i ≡ condition_at c.args.sheet.now (number_in (get_or c.args.entries.now c.loop-i.i 0)) ∷ kept_from (suc c.loop-i.i) = ap (kept_of c.args.sheet.now) (entries_step c.loop-i.invariant.0 (below)) in

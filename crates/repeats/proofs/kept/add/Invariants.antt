@@ -1,16 +1,9 @@
-use Prim.Native.Nat.{ℕ, suc, ◌-◌, ◌<◌}
-use mathlib.Core.List.{List, ◌∷◌}
-use mathlib.Core.Path.{◌≡◌, sym, ap, subst}
-use native.Mathlib.Numerals.{add-one}
-use native.Mathlib.Omega.{arith}
-use lib.ListN.{length, get_or}
+-- `repeats::kept::add`: the conditions of the entries that are left, added to what there is now, come to all of them.
+use Prim.Native.Nat.{◌-◌}
 use lib.Seq.{slice}
-use Rattle.sheet.specs.Conditions.{Term, condition_at}
-use Rattle.writer.specs.Drafts.{draft, RoomFor}
-use Rattle.writer.proofs.Packing.{Packing, packing_start, packing_room, packing_next, packing_end}
-use Rattle.repeats.specs.Inner.{EntryOf, number_in, kept_of, EntriesOf}
-use Rattle.repeats.proofs.Entries.{entries_step, entry_here, entries_next, entries_end}
-use borrow.Author.Rules.{rules}
+use Rattle.writer.specs.Drafts.{draft}
+use Rattle.writer.proofs.Packing.{Packing}
+use Rattle.repeats.specs.Inner.{kept_of, EntriesOf}
 use Rattle.repeats.proofs.kept.add.Given as goal
 
 abbrev pub invariant-loop-i : goal.invariant-loop-i

@@ -1,5 +1,4 @@
--- `repeats::kept::gather`: of the conditions passed those that stay are entered; with what stays of the others they come to what stays of all.
-use Prim.Native.Nat.{ℕ, suc, ◌+◌, ◌-◌, ◌≤◌, ◌<◌}
+use Prim.Native.Nat.{ℕ, suc, ◌+◌, ◌≤◌, ◌<◌}
 use mathlib.Core.List.{List, ◌++◌}
 use mathlib.Core.Path.{◌≡◌, sym, ap, ap₂, subst, ◌∙◌}
 use native.Mathlib.Numerals.{add-one}
@@ -14,8 +13,7 @@ use Rattle.sheet.proofs.ChainEnds.{head-on}
 use Rattle.sheet.proofs.Conditions.{terms-length}
 use Rattle.repeats.specs.Inner.{digest_limit, digest_of, SoughtIn, EntryOf, kept_of, is_left_out}
 use Rattle.repeats.proofs.Digesting.{digest-small}
-use Rattle.repeats.proofs.Gathering.{earlier, Gathering, gathering_start, first-entries, gathering_past, terms-few, one_more, all_stay}
-use borrow.Author.Rules.{rules}
+use Rattle.repeats.proofs.Gathering.{earlier, gathering_start, first-entries, gathering_past, terms-few, one_more, all_stay}
 use Rattle.repeats.proofs.kept.gather.Goals as goal
 
 pub loop-c-init : goal.loop-c-init
@@ -30,6 +28,7 @@ overflow_add-c c =
 pub condition_at-condition-requires : goal.condition_at-condition-requires
 condition_at-condition-requires c =
     let below : c.loop-c.c < condition_count c.args.second.now = omega (arith, c.loop-c-test.true, c.requires.1.counted) in
+    -- The number of the condition that is looked at is one of the second sheet's.
     let high : c.loop-c.c + 1 ≤ condition_count c.args.second.now = omega (arith, below) in
     (c.requires.1, omega arith, high)
 
@@ -37,11 +36,12 @@ condition_at-condition-requires c =
 pub left_out-requires : goal.left_out-requires
 left_out-requires c =
     let below : c.loop-c.c < condition_count c.args.second.now = omega (arith, c.loop-c-test.true, c.requires.1.counted) in
+    -- The number of the condition that is looked at is one of the second sheet's.
     let high : c.loop-c.c + 1 ≤ condition_count c.args.second.now = omega (arith, below) in
     let sought : SoughtIn c.args.second.now c.condition_at-condition.result = let s = c.args.second.now in
     let told = c.condition_at-condition.ensures in
     record {
-      on = subst (OnChain s) (sym told.head) (head-on s c.requires.1.accepted (c.loop-c.c + 1) (omega arith) (high));
+      on = subst (OnChain s) (sym told.head) (head-on s c.requires.1.accepted (c.loop-c.c + 1) (omega arith) high);
       digest = told.digest ∙ ap (λ r. digest_of (terms_from s r)) (sym told.head);
     } in
     let l = c.loop-c.invariant in
@@ -54,18 +54,22 @@ loop-c-smaller-then-left_out c =
 pub loop-c-preserved-then-left_out : goal.loop-c-preserved-then-left_out
 loop-c-preserved-then-left_out c =
     let below : c.loop-c.c < condition_count c.args.second.now = omega (arith, c.loop-c-test.true, c.requires.1.counted) in
+    -- The condition that is looked at; those of the first sheet that are kept, and those of its own so far.
     let looked : List Term = condition_at c.args.second.now (suc c.loop-c.c) in
     let behind : List (List Term) = earlier c.args.first.now c.args.from c.args.second.now c.args.entries.now in
     let own : List (List Term) = kept_of c.args.second.now (slice c.args.from c.loop-c.upto c.loop-c.entries) in
+    -- Its chain has the terms of that condition.
     let terms_of : terms_from c.args.second.now c.condition_at-condition.result.head.0 ≡ condition_at c.args.second.now (suc c.loop-c.c) = let s = c.args.second.now in
     ap (terms_from s) (c.condition_at-condition.ensures.head ∙ ap (head_at s) (add-one c.loop-c.c)) in
-    let told : c.left_out.result ≡ is_left_out (looked) (behind ++ own) = c.left_out.ensures
-    ∙ ap₂ (λ (ts : List Term) (es : List ℕ). is_left_out ts (kept_of c.args.first.now es ++ own)) (terms_of) c.loop-c.invariant.before in
-    rw (add-one c.loop-c.c) (gathering_past _ _ _ _ c.loop-c.invariant (below) (sym (told) ∙ c.if-left_out.true))
+    -- What `left_out` answers is asked of the condition behind those kept so far.
+    let told : c.left_out.result ≡ is_left_out looked (behind ++ own) = c.left_out.ensures
+    ∙ ap₂ (λ (ts : List Term) (es : List ℕ). is_left_out ts (kept_of c.args.first.now es ++ own)) terms_of c.loop-c.invariant.before in
+    rw (add-one c.loop-c.c) (gathering_past _ _ _ _ c.loop-c.invariant below (sym told ∙ c.if-left_out.true))
 
 pub entry_of-requires : goal.entry_of-requires
 entry_of-requires c =
     let below : c.loop-c.c < condition_count c.args.second.now = omega (arith, c.loop-c-test.true, c.requires.1.counted) in
+    -- The number of the condition that is looked at is one of the second sheet's.
     let high : c.loop-c.c + 1 ≤ condition_count c.args.second.now = omega (arith, below) in
     let s = c.args.second.now in (
       omega (arith, high, (sound s c.requires.1.accepted).header.conditions),
@@ -75,17 +79,20 @@ entry_of-requires c =
 pub offset_bounds-entries-upto : goal.offset_bounds-entries-upto
 offset_bounds-entries-upto c =
     let below : c.loop-c.c < condition_count c.args.second.now = omega (arith, c.loop-c-test.true, c.requires.1.counted) in
+    -- The entries are few.
     let few : c.loop-c.upto ≤ 512 = omega (arith, c.loop-c.invariant.few, below, c.requires.3, (sound c.args.second.now c.requires.1.accepted).header.conditions) in
     omega (arith, few)
 
 pub bounds-entries-upto : goal.bounds-entries-upto
 bounds-entries-upto c =
+    -- There is room for the entry.
     let room : c.loop-c.upto < length c.loop-c.entries = omega (arith, c.loop-c.invariant.few, c.loop-c.invariant.sized, c.loop-c-test.true, c.requires.4) in
     room
 
 pub overflow_add-upto : goal.overflow_add-upto
 overflow_add-upto c =
     let below : c.loop-c.c < condition_count c.args.second.now = omega (arith, c.loop-c-test.true, c.requires.1.counted) in
+    -- The entries are few.
     let few : c.loop-c.upto ≤ 512 = omega (arith, c.loop-c.invariant.few, below, c.requires.3, (sound c.args.second.now c.requires.1.accepted).header.conditions) in
     omega (arith, few)
 
@@ -96,7 +103,7 @@ overflow_add-terms c =
     let below : c.loop-c.c < condition_count c.args.second.now = omega (arith, c.loop-c-test.true, c.requires.1.counted) in
     let t = c.args.second.now in
     let ok = c.requires.1.accepted in
-    omega (arith, counted, terms-few _ _ _ _ c.loop-c.invariant (below), terms-length t ok, (sound t ok).header.records)
+    omega (arith, counted, terms-few _ _ _ _ c.loop-c.invariant below, terms-length t ok, (sound t ok).header.records)
 
 pub loop-c-smaller : goal.loop-c-smaller
 loop-c-smaller c =
@@ -105,14 +112,19 @@ loop-c-smaller c =
 pub loop-c-preserved : goal.loop-c-preserved
 loop-c-preserved c =
     let below : c.loop-c.c < condition_count c.args.second.now = omega (arith, c.loop-c-test.true, c.requires.1.counted) in
+    -- The number of the condition that is looked at is one of the second sheet's.
     let high : c.loop-c.c + 1 ≤ condition_count c.args.second.now = omega (arith, below) in
+    -- The condition that is looked at; those of the first sheet that are kept, and those of its own so far.
     let looked : List Term = condition_at c.args.second.now (suc c.loop-c.c) in
     let behind : List (List Term) = earlier c.args.first.now c.args.from c.args.second.now c.args.entries.now in
     let own : List (List Term) = kept_of c.args.second.now (slice c.args.from c.loop-c.upto c.loop-c.entries) in
+    -- Its chain has the terms of that condition.
     let terms_of : terms_from c.args.second.now c.condition_at-condition.result.head.0 ≡ condition_at c.args.second.now (suc c.loop-c.c) = let s = c.args.second.now in
     ap (terms_from s) (c.condition_at-condition.ensures.head ∙ ap (head_at s) (add-one c.loop-c.c)) in
-    let told : c.left_out.result ≡ is_left_out (looked) (behind ++ own) = c.left_out.ensures
-    ∙ ap₂ (λ (ts : List Term) (es : List ℕ). is_left_out ts (kept_of c.args.first.now es ++ own)) (terms_of) c.loop-c.invariant.before in
+    -- What `left_out` answers is asked of the condition behind those kept so far.
+    let told : c.left_out.result ≡ is_left_out looked (behind ++ own) = c.left_out.ensures
+    ∙ ap₂ (λ (ts : List Term) (es : List ℕ). is_left_out ts (kept_of c.args.first.now es ++ own)) terms_of c.loop-c.invariant.before in
+    -- There is room for the entry.
     let room : c.loop-c.upto < length c.loop-c.entries = omega (arith, c.loop-c.invariant.few, c.loop-c.invariant.sized, c.loop-c-test.true, c.requires.4) in
     let counted : c.condition_at-condition.result.terms ≡ length (condition_at c.args.second.now (suc c.loop-c.c)) = let s = c.args.second.now in
     c.condition_at-condition.ensures.terms ∙ ap (λ (i : ℕ). length (condition_at s i)) (add-one c.loop-c.c) in
@@ -126,8 +138,8 @@ loop-c-preserved c =
       digest = c.entry_of.ensures.1 ∙ c.condition_at-condition.ensures.digest ∙ ap (λ (i : ℕ). digest_of (condition_at t i)) (sym number);
     } in
     rw (add-one l.c, add-one l.upto)
-    (one_more _ _ _ _ l.inv (below) (sym (told) ∙ c.if-left_out.false) (room) c.entry_of.result one (number ∙ add-one l.c)
-    c.condition_at-condition.result.terms (counted))
+    (one_more _ _ _ _ l.invariant below (sym told ∙ c.if-left_out.false) room c.entry_of.result one (number ∙ add-one l.c)
+    c.condition_at-condition.result.terms counted)
 
 pub returns : goal.returns
 returns c =

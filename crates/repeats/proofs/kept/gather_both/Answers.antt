@@ -8,21 +8,23 @@ use Rattle.repeats.proofs.Entered.{entered}
 use borrow.Author.Rules.{rules}
 use Rattle.repeats.proofs.kept.gather_both.Goals as goal
 
-)
-
 pub gather-mine-requires : goal.gather-mine-requires
 gather-mine-requires c =
+    -- Neither sheet has more conditions than a sheet may have.
     let limits : (c.args.m1 ≤ most_conditions) × (c.args.m2 ≤ most_conditions) = (
-  omega (arith, c.requires.0.counted, (sound c.args.first.now c.requires.0.accepted).header.conditions),
-  omega (arith, c.requires.1.counted, (sound c.args.second.now c.requires.1.accepted).header.conditions), in
+      omega (arith, c.requires.0.counted, (sound c.args.first.now c.requires.0.accepted).header.conditions),
+      omega (arith, c.requires.1.counted, (sound c.args.second.now c.requires.1.accepted).header.conditions),
+    ) in
     let limit = limits in
     (search rules, search rules, record { order = omega arith; room = omega arith; each = tt }, omega arith, omega (arith, c.requires.2, limit.0, limit.1))
 
 pub gather-others-requires : goal.gather-others-requires
 gather-others-requires c =
+    -- Neither sheet has more conditions than a sheet may have.
     let limits : (c.args.m1 ≤ most_conditions) × (c.args.m2 ≤ most_conditions) = (
-  omega (arith, c.requires.0.counted, (sound c.args.first.now c.requires.0.accepted).header.conditions),
-  omega (arith, c.requires.1.counted, (sound c.args.second.now c.requires.1.accepted).header.conditions), in
+      omega (arith, c.requires.0.counted, (sound c.args.first.now c.requires.0.accepted).header.conditions),
+      omega (arith, c.requires.1.counted, (sound c.args.second.now c.requires.1.accepted).header.conditions),
+    ) in
     let first = c.gather-mine.ensures in
     let limit = limits in
     let mine-counted = c.requires.0.counted in

@@ -12,7 +12,6 @@ use Rattle.sheet.proofs.ChainEnds.{terms_end, terms_step}
 use Rattle.repeats.specs.Repeats.{repeats}
 use Rattle.repeats.specs.Inner.{kept_of, is_left_out}
 use Rattle.repeats.proofs.Equal.{repeats-append}
-use borrow.Author.Rules.{rules}
 use Rattle.repeats.proofs.kept.left_out.Goals as goal
 
 -- A chain from zero on has no term,
@@ -25,21 +24,24 @@ by_repeats : (s : List ℕ) (head : ℕ) (first second : List (List Term)) → A
 by_repeats s head first second ok on low =
     rw (terms_step s ok head low on.within) (repeats-append _ first second)
 
-told : (c : tie.After-repeats-between) (b : Bool) → c.repeats-between.result ≡ b
-    → is_left_out (terms (begun c)) (behind (begun c) ++ own (begun c)) ≡ (b || repeats (terms (begun c)) (own (begun c)))
-told c b e =
-    let start = begun c in
-    by_repeats _ _ (behind start) (own start) start.pre.1.accepted start.pre.2.on (omega (arith, c.before.if1.false))
-    ∙ ap (λ (p : Bool). p || repeats (terms start) (own start)) (sym c.repeats-between.ensures ∙ e)
-
 pub returns-then-condition-eq0 : goal.returns-then-condition-eq0
 returns-then-condition-eq0 c =
     sym (no_term_stays _ _ _ c.if-condition-eq0.true)
 
 pub returns-then-repeats_between : goal.returns-then-repeats_between
 returns-then-repeats_between c =
-    sym (told c true c.if-repeats_between.true)
+    let terms : List Term = terms_from c.args.second.now c.args.condition.head.0 in
+    let behind : List (List Term) = kept_of c.args.first.now (slice 0 c.args.from c.args.entries.now) in
+    let own : List (List Term) = kept_of c.args.second.now (slice c.args.from c.args.upto c.args.entries.now) in
+    let told : (b : Bool) → c.repeats_between.result ≡ b → is_left_out (terms) (behind ++ own) ≡ (b || repeats (terms) (own)) = λ b e. by_repeats _ _ (behind) (own) c.requires.1.accepted c.requires.2.on (omega (arith, c.if-condition-eq0.false))
+    ∙ ap (λ (p : Bool). p || repeats (terms) (own)) (sym c.repeats_between.ensures ∙ e) in
+    sym (told true c.if-repeats_between.true)
 
 pub returns : goal.returns
 returns c =
-    c.repeats_between-2.ensures ∙ sym (told c false c.if-repeats_between.false)
+    let terms : List Term = terms_from c.args.second.now c.args.condition.head.0 in
+    let behind : List (List Term) = kept_of c.args.first.now (slice 0 c.args.from c.args.entries.now) in
+    let own : List (List Term) = kept_of c.args.second.now (slice c.args.from c.args.upto c.args.entries.now) in
+    let told : (b : Bool) → c.repeats_between.result ≡ b → is_left_out (terms) (behind ++ own) ≡ (b || repeats (terms) (own)) = λ b e. by_repeats _ _ (behind) (own) c.requires.1.accepted c.requires.2.on (omega (arith, c.if-condition-eq0.false))
+    ∙ ap (λ (p : Bool). p || repeats (terms) (own)) (sym c.repeats_between.ensures ∙ e) in
+    c.repeats_between-2.ensures ∙ sym (told false c.if-repeats_between.false)

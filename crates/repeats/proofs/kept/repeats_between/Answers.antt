@@ -1,5 +1,4 @@
--- `repeats::kept::repeats_between`: the condition repeats none of those passed, so the entries that are left decide.
-use Prim.Native.Nat.{◌-◌, ◌<◌}
+use Prim.Native.Nat.{◌<◌}
 use mathlib.Core.Path.{◌≡◌, sym, ap, subst, ◌∙◌}
 use native.Mathlib.Numerals.{add-one}
 use native.Mathlib.Omega.{arith}
@@ -12,7 +11,7 @@ use Rattle.sheet.proofs.ChainEnds.{head-on}
 use Rattle.repeats.specs.Repeats.{equal_conditions}
 use Rattle.repeats.specs.Inner.{EntryOf, number_in}
 use Rattle.repeats.proofs.Entries.{entry_here}
-use Rattle.repeats.proofs.Seeking.{Seeking, seeking_start, here, found, seeking_next, seeking_past, none_found}
+use Rattle.repeats.proofs.Seeking.{seeking_start, here, found, seeking_next, seeking_past, none_found}
 use borrow.Author.Rules.{rules}
 use Rattle.repeats.proofs.kept.repeats_between.Goals as goal
 
@@ -45,12 +44,14 @@ loop-i-preserved-then-digest_in-condition c =
 pub head_at-at-requires : goal.head_at-at-requires
 head_at-at-requires c =
     let below : c.loop-i.i < c.args.upto = omega (arith, c.loop-i-test.true) in
+    -- The entry that is read is one of the other sheet.
     let entry : EntryOf c.args.other.now (get_or c.args.entries.now c.loop-i.i 0) = entry_here c.loop-i.invariant.left (below) in
     let header = (sound c.args.other.now c.requires.2.accepted).header in
     rw c.number_in.ensures ((entry).low, omega (arith, (entry).high, header.whole))
 
 pub equal_chains-requires : goal.equal_chains-requires
 equal_chains-requires c =
+    -- The head that is read is that of the entry's condition.
     let head : c.head_at-at.result.0 ≡ head_at c.args.other.now (number_in (get_or c.args.entries.now c.loop-i.i 0)) = c.head_at-at.ensures ∙ ap (head_at c.args.other.now) c.number_in.ensures in
     let below : c.loop-i.i < c.args.upto = omega (arith, c.loop-i-test.true) in
     let entry : EntryOf c.args.other.now (get_or c.args.entries.now c.loop-i.i 0) = entry_here c.loop-i.invariant.left (below) in
