@@ -1,5 +1,7 @@
 // The splits above a record of a list of records, with the branch taken at each, in lent numbers: the path that a checker of the list keeps. The
 // functions take the numbers and how many splits there are; the room is the slice's length. What changes the path goes through `Path`, lent by `&mut`.
+#![tactic(auto)]
+
 ghost use Rattle.std.specs.Prelude.{◌≡◌, ◌∷◌, ◌+◌, ◌*◌, ◌-◌, ◌≤◌, ◌<◌, length};
 ghost use Rattle.sheet.specs.Format.{most_lots};
 ghost use Rattle.refutation.specs.Refutation.{nearest, turned};
