@@ -35,7 +35,7 @@ bounds-self-q c =
 pub loop-left-preserved-then-u-v : goal.loop-left-preserved-then-u-v
 loop-left-preserved-then-u-v c =
     let a = c.args in
-    (search rules, c.loop-left.invariant.1 ∙ passed_by_xor a.t1.lots a.pairs.now _ _ c.loop-left.left (omega arith) c.if-u-v.true)
+    (search rules, c.loop-left.invariant.1 ∙ passed_by_xor a.self.lots a.pairs.now _ _ c.loop-left.left (omega arith) c.if-u-v.true)
 
 pub returns-then-between : goal.returns-then-between
 returns-then-between c =
@@ -43,7 +43,7 @@ returns-then-between c =
       classes = refl;
       marked = sym
           (c.loop-left.invariant.1
-          ∙ found a.t1.lots a.pairs.now _ _ c.loop-left.left (omega arith) (sym c.between.ensures ∙ c.if-between.true));
+          ∙ found a.self.lots a.pairs.now _ _ c.loop-left.left (omega arith) (sym c.between.ensures ∙ c.if-between.true));
     }
 
 pub loop-left-preserved : goal.loop-left-preserved
@@ -51,10 +51,10 @@ loop-left-preserved c =
     let a = c.args in (
       search rules,
       c.loop-left.invariant.1
-          ∙ passed a.t1.lots a.pairs.now _ _ c.loop-left.left (omega arith) (sym c.between.ensures ∙ c.if-between.false),
+          ∙ passed a.self.lots a.pairs.now _ _ c.loop-left.left (omega arith) (sym c.between.ensures ∙ c.if-between.false),
     )
 
 pub returns : goal.returns
 returns c =
     let a = c.args in
-    record { classes = refl; marked = sym (c.loop-left.invariant.1 ∙ none_left_lem a.t1.lots a.pairs.now _ _ c.loop-left.left (omega arith)) }
+    record { classes = refl; marked = sym (c.loop-left.invariant.1 ∙ none_left_lem a.self.lots a.pairs.now _ _ c.loop-left.left (omega arith)) }
