@@ -1,4 +1,6 @@
 // Which limits can be asked for, the classes that one looks at, and their pairs: by a class map and a table of marks, from any pair on.
+#![tactic(auto)]
+
 ghost use Rattle.std.specs.Prelude.{◌≡◌, cond, suc, ◌≤◌, ◌<◌, ltb, length, take, drop};
 ghost use Rattle.sheet.specs.Format.{most_lots};
 ghost use Rattle.equality.specs.Node.{Node, split, class_of};

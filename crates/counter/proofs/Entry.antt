@@ -36,5 +36,5 @@ module _ (s grouping : List ℕ) where
 
   -- ---- all that the entry point ensures
 
-  pub ensured : {a : Answer} → a ≡ count_answer s grouping → (a ≡ count_answer s grouping) × CountMeans a s grouping
-  ensured e = (e, rw e means)
+  pub ensured : {a : Answer} → a ≡ count_answer s grouping → record { answer : a ≡ count_answer s grouping; meaning : CountMeans a s grouping }
+  ensured e = record { answer = e; meaning = rw e means }

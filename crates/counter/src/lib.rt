@@ -1,4 +1,6 @@
 // The count of the conditions that the numbers of a grouping don't meet.
+#![tactic(auto)]
+
 ghost use Rattle.std.specs.Prelude.{◌≡◌, ◌≤◌, length};
 ghost use Rattle.sheet.specs.Format.{lot_count};
 ghost use Rattle.sheet.specs.Conditions.{terms_from, conditions};

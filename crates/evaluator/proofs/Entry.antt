@@ -67,8 +67,11 @@ module _ (s grouping : List ℕ) where
 
   abbrev pub Ensured : Evaluation → Type 0
   Ensured r =
-      (r ≡ evaluate_case s grouping)
-      × ((evaluation_answer r ≡ evaluate_answer s grouping) × Evaluated (evaluation_answer r) s grouping)
+      record {
+        case : r ≡ evaluate_case s grouping;
+        answer : evaluation_answer r ≡ evaluate_answer s grouping;
+        meaning : Evaluated (evaluation_answer r) s grouping;
+      }
 
   pub ensured : {r : Evaluation} → r ≡ evaluate_case s grouping → Ensured r
-  ensured e = let answer = ap evaluation_answer e ∙ answer_is in (e, (answer, rw answer means))
+  ensured e = let answer = ap evaluation_answer e ∙ answer_is in record { case = e; answer = answer; meaning = rw answer means }

@@ -35,7 +35,7 @@ here_true : (f : ℕ → ℕ) (t : Term) (ts : List Term) → holds f t ≡ true
 unfolding before_first_true
 here_true f t ts e = rw e
 
-module _ {f : ℕ → ℕ} {s : List ℕ} {head at : ℕ} (l : EveryTermPassedIsFalse f s head at) where
+module _ (f : ℕ → ℕ) {s : List ℕ} {head at : ℕ} (l : EveryTermPassedIsFalse f s head at) where
   -- A condition with a term where the loop stands is not withdrawn.
   pub not-withdrawn : Accepted s → 1 ≤ at → eqb head 0 ≡ false
   not-withdrawn ok low =

@@ -1,5 +1,7 @@
 // Which two classes are marked apart, as a table of bits in lent bytes: marked once for all pairs set apart, it answers each question by one look. What the
 // bytes of the table have before does not matter.
+#![tactic(auto)]
+
 ghost use Rattle.std.specs.Prelude.{◌≡◌, ◌*◌, ◌≤◌, ◌<◌, length, replicate};
 ghost use Rattle.sheet.specs.Format.{most_lots};
 ghost use Rattle.classes.specs.Maps.{ClassMap};

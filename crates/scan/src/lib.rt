@@ -1,4 +1,6 @@
 // Which condition a node takes, and where its terms are looked at: the conditions are scanned, and those that are settled for good are noted.
+#![tactic(auto)]
+
 ghost use Rattle.std.specs.Prelude.{◌≡◌, cond, ℕ, ◌-◌, ◌≤◌, eqb, length, set};
 ghost use Rattle.equality.specs.Node.{Decisions, classes};
 ghost use Rattle.limit.specs.Meaning.{Limit};

@@ -8,7 +8,6 @@ use Rattle.sheet.proofs.Readings.{ReadAs, read_accepts, read_refuses}
 use Rattle.equality.proofs.Checked.{sheet-refused, grouping-short, all_pass}
 use Rattle.evaluator.specs.declared.Evaluation.TheVariants.{Refused}
 use Rattle.evaluator.proofs.Entry.{case_by, ensured}
-use borrow.Author.Rules.{rules}
 use Rattle.evaluator.proofs.evaluate.Goals as goal
 
 pub returns-then-grouping-lots : goal.returns-then-grouping-lots

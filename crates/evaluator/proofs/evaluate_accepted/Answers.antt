@@ -6,7 +6,6 @@ use Rattle.sheet.specs.Format.{most_lots}
 use Rattle.sheet.proofs.Accepted.{sound}
 use Rattle.evaluator.specs.Answers.{unmet_or}
 use Rattle.evaluator.proofs.Lots.{same_unmet}
-use borrow.Author.Rules.{rules}
 use Rattle.evaluator.proofs.evaluate_accepted.Goals as goal
 
 pub number_lots-requires : goal.number_lots-requires
@@ -22,6 +21,6 @@ first_unmet-requires c =
 pub returns : goal.returns
 returns c =
     let numbered = c.number_lots in
-    let same = same_unmet c.args.sheet.now numbered.new.0 c.args.grouping.now numbered.ensures.1.0
-    (λ i less. numbered.ensures.0 i (omega (arith, c.requires.1))) c.requires.0.accepted in
+    let same = same_unmet c.args.sheet.now numbered.new.numbers c.args.grouping.now numbered.ensures.zero
+    (λ i less. numbered.ensures.numbered i (omega (arith, c.requires.1))) c.requires.0.accepted in
     c.first_unmet.ensures ∙ ap unmet_or same

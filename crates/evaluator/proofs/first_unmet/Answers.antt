@@ -1,37 +1,20 @@
 -- `evaluator::first_unmet`: the conditions that the loop has passed are met.
 use mathlib.Core.Path.{◌≡◌, sym, ap, ◌∙◌}
-use Prim.Native.Nat.{ℕ, suc, ◌+◌, ◌-◌, ◌<◌}
+use Prim.Native.Nat.{ℕ, suc, ◌+◌, ◌<◌}
 use mathlib.Core.List.{List}
 use native.Mathlib.Numerals.{add-one}
 use native.Mathlib.Omega.{arith}
-use borrow.Author.Tests.{not-true, not-false}
 use Rattle.sheet.specs.Format.{condition_count}
 use Rattle.sheet.specs.Conditions.{condition_at, terms_from}
 use Rattle.sheet.proofs.Accepted.{Sound, sound}
 use Rattle.sheet.proofs.ChainEnds.{head-on}
-use Rattle.sheet.proofs.Scanning.{Scanning, scanning_start, found_here, scanning_next, none_found}
+use Rattle.sheet.proofs.Scanning.{scanning_start, found_here, scanning_next, none_found}
 use Rattle.equality.specs.Meaning.{meets_condition}
-use Rattle.equality.specs.Evaluator.{lowest_unmet}
 use Rattle.evaluator.specs.declared.Evaluation.TheVariants.{Unmet}
 use Rattle.evaluator.specs.Answers.{unmet_or}
 use Rattle.evaluator.specs.Numbers.{number_at}
 use Rattle.evaluator.proofs.Scanning.{lowest_goes}
-use borrow.Author.Rules.{rules}
 use Rattle.evaluator.proofs.first_unmet.Goals as goal
-
-module _ (c : tie.In-loop invariant-loop decreases-loop) where
-  abbrev s : List ℕ
-  s = (begun c).args.sheet.now
-
-  abbrev assigned : ℕ → ℕ
-  assigned = number_at (begun c).args.numbers.now
-
-  facts : Sound s
-  facts = sound s (begun c).requires.sheet.accepted
-
-  -- The next condition is one of the sheet's.
-  below : c.before.loop.c < condition_count s
-  below = omega (arith, c.loop-test.true, (begun c).requires.sheet.counted)
 
 pub loop-c-init : goal.loop-c-init
 loop-c-init c =
@@ -39,24 +22,35 @@ loop-c-init c =
 
 pub overflow_add-c : goal.overflow_add-c
 overflow_add-c c =
-    omega (arith, below c, (facts c).header.conditions)
+    let s : List ℕ = c.args.sheet.now in
+    let facts : Sound s = sound s c.requires.sheet.accepted in
+    let below : c.loop-c.c < condition_count s = omega (arith, c.loop-c-test.true, c.requires.sheet.counted) in
+    omega (arith, below, facts.header.conditions)
 
 pub head_at-head-requires : goal.head_at-head-requires
 head_at-head-requires c =
-    omega (arith, below c, (facts c).header.whole)
+    let s : List ℕ = c.args.sheet.now in
+    let facts : Sound s = sound s c.requires.sheet.accepted in
+    let below : c.loop-c.c < condition_count s = omega (arith, c.loop-c-test.true, c.requires.sheet.counted) in
+    omega (arith, below, facts.header.whole)
 
 pub is_met-requires : goal.is_met-requires
-is_met-requires c = (
-  c.requires,
-  rw c.head_at-head.ensures (head-on (s c) c.requires.sheet.accepted (c.loop-c.c + 1) (omega arith) (omega (arith, below c))),
-)
+is_met-requires c =
+    let s : List ℕ = c.args.sheet.now in
+    let below : c.loop-c.c < condition_count s = omega (arith, c.loop-c-test.true, c.requires.sheet.counted) in (
+      c.requires,
+      rw c.head_at-head.ensures (head-on s c.requires.sheet.accepted (c.loop-c.c + 1) (omega arith) (omega (arith, below))),
+    )
 
 pub returns-then-not-is_met : goal.returns-then-not-is_met
 returns-then-not-is_met c =
-    let answer : c.is_met.result ≡ meets_condition (assigned c) (condition_at (s c) (suc c.loop-c.c)) = c.is_met.ensures
-    ∙ ap (λ (r : ℕ). meets_condition (assigned c) (terms_from (s c) r)) c.head_at-head.ensures
-    ∙ ap (λ (n : ℕ). meets_condition (assigned c) (condition_at (s c) n)) (add-one c.loop-c.c) in
-    let lowest = found_here (lowest_goes (assigned c)) c.loop-c.invariant (below c) (sym (answer) ∙ not-true _ c.if-not-is_met.true-raw) in
+    let s : List ℕ = c.args.sheet.now in
+    let assigned : ℕ → ℕ = number_at c.args.numbers.now in
+    let below : c.loop-c.c < condition_count s = omega (arith, c.loop-c-test.true, c.requires.sheet.counted) in
+    let answer : c.is_met.result ≡ meets_condition assigned (condition_at s (suc c.loop-c.c)) = c.is_met.ensures
+    ∙ ap (λ (r : ℕ). meets_condition assigned (terms_from s r)) c.head_at-head.ensures
+    ∙ ap (λ (n : ℕ). meets_condition assigned (condition_at s n)) (add-one c.loop-c.c) in
+    let lowest = found_here (lowest_goes assigned) c.loop-c.invariant below (sym answer ∙ c.if-not-is_met.true) in
     ap (λ (n : ℕ). Unmet (record { 0 = n })) (add-one c.loop-c.c) ∙ ap unmet_or (sym lowest)
 
 pub loop-c-smaller : goal.loop-c-smaller
@@ -65,11 +59,14 @@ loop-c-smaller c =
 
 pub loop-c-preserved : goal.loop-c-preserved
 loop-c-preserved c =
-    let answer : c.is_met.result ≡ meets_condition (assigned c) (condition_at (s c) (suc c.loop-c.c)) = c.is_met.ensures
-    ∙ ap (λ (r : ℕ). meets_condition (assigned c) (terms_from (s c) r)) c.head_at-head.ensures
-    ∙ ap (λ (n : ℕ). meets_condition (assigned c) (condition_at (s c) n)) (add-one c.loop-c.c) in
+    let s : List ℕ = c.args.sheet.now in
+    let assigned : ℕ → ℕ = number_at c.args.numbers.now in
+    let below : c.loop-c.c < condition_count s = omega (arith, c.loop-c-test.true, c.requires.sheet.counted) in
+    let answer : c.is_met.result ≡ meets_condition assigned (condition_at s (suc c.loop-c.c)) = c.is_met.ensures
+    ∙ ap (λ (r : ℕ). meets_condition assigned (terms_from s r)) c.head_at-head.ensures
+    ∙ ap (λ (n : ℕ). meets_condition assigned (condition_at s n)) (add-one c.loop-c.c) in
     rw (add-one c.loop-c.c)
-    (scanning_next (lowest_goes (assigned c)) c.loop-c.invariant (below c) (sym (answer) ∙ not-false _ c.if-not-is_met.false-raw))
+    (scanning_next (lowest_goes assigned) c.loop-c.invariant below (sym answer ∙ c.if-not-is_met.false))
 
 pub returns : goal.returns
 returns c =

@@ -1,6 +1,5 @@
 -- `evaluator::is_true`: by the sign, the two numbers are equal or differ.
 use borrow.Author.Tests.{eq-eqb, ne_eqb}
-use borrow.Author.Rules.{rules}
 use Rattle.evaluator.proofs.is_true.Goals as goal
 
 pub returns-then-t-eq-SAME : goal.returns-then-t-eq-SAME

@@ -1,11 +1,10 @@
 -- `evaluator::number_lots`: the lots up to i have their bytes, and the other entries are as they were; what is left of the lots falls.
-use Prim.Native.Nat.{ℕ, ◌+◌, ◌-◌, ◌≤◌, ◌<◌}
-use mathlib.Core.Path.{◌≡◌, refl, ◌∙◌}
+use Prim.Native.Nat.{◌+◌}
+use mathlib.Core.Path.{refl, ◌∙◌}
 use native.Mathlib.Omega.{arith}
 use borrow.Author.Count.{below_more}
-use lib.ListN.{length, get_or, length-set}
+use lib.ListN.{length-set}
 use lib.Seq.{get_or-set_same, get_or-set_other}
-use borrow.Author.Rules.{rules}
 use Rattle.evaluator.proofs.number_lots.Goals as goal
 
 pub loop-i-init : goal.loop-i-init
@@ -28,4 +27,4 @@ loop-i-preserved c =
 pub returns : goal.returns
 returns c =
     let inv = c.loop-i.invariant in
-    ((λ k lt. inv.2 k (omega arith)), (inv.3, inv.4))
+    record { numbered = λ k lt. inv.2 k (omega arith); zero = inv.3; above = inv.4 }

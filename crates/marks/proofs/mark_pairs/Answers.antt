@@ -1,0 +1,24 @@
+use Prim.Native.Nat.{◌+◌, ◌*◌, ◌-◌, ◌≤◌}
+use mathlib.Core.Path.{◌≡◌}
+use native.Mathlib.Omega.{arith}
+use lib.ListN.{get_or}
+use Rattle.sheet.specs.Format.{most_lots}
+use Rattle.classes.specs.Pairs.{set_apart}
+use Rattle.marks.specs.Marks.{Marks, Outside}
+use Rattle.marks.proofs.Bytes.{outside-none, outside_then}
+use Rattle.marks.proofs.Marks.{marks_none, marks_pair, outside-within}
+use borrow.Author.Rules.{rules}
+use Rattle.marks.proofs.mark_pairs.Goals as goal
+
+pub loop-i-init : goal.loop-i-init
+unfolding set_apart
+loop-i-init c =
+    (omega arith, marks_none c.requires.4, outside-none _ _)
+
+pub loop-i-preserved : goal.loop-i-preserved
+loop-i-preserved c =
+    let turn = c.loop-i in (
+      omega arith,
+      marks_pair turn.i turn.invariant.2 (omega arith) turn.invariant.1 c.mark.ensures,
+      outside_then turn.invariant.2 c.mark.ensures.outside,
+    )
