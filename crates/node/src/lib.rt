@@ -1,4 +1,6 @@
 // One node of the search: what it is, by the condition that it takes, or by a limit where it takes none.
+#![tactic(auto)]
+
 ghost use Rattle.std.specs.Prelude.{◌≡◌, ℕ, ◌-◌, ◌≤◌, ◌<◌, List, length};
 ghost use Rattle.sheet.specs.Format.{most_lots};
 ghost use Rattle.sheet.specs.Conditions.{conditions};
