@@ -1,4 +1,6 @@
 // Whether a ground or a clique of a list passes, by the classes and the marks of the path above it: for the refutation checker.
+#![tactic(auto)]
+
 ghost use Rattle.std.specs.Prelude.{◌≡◌, not, ◌||◌, ◌+◌, ◌≤◌, ◌<◌, eqb};
 ghost use Rattle.sheet.specs.Format.{most_lots, same_sign};
 ghost use Rattle.sheet.specs.Inner.{HasConditions, OnChain};

@@ -1,5 +1,7 @@
 // The classes under each split of a path, in lent bytes. A row of `maps` is a class map: a split in its same branch that joins two classes writes the next
 // row, and any other leaves them as they are. `levels` has the row under so many splits, so that a turn or a drop goes back to it by its number alone.
+#![tactic(auto)]
+
 ghost use Rattle.std.specs.Prelude.{◌≡◌, false, cond, List, [], ◌∷◌, ℕ, ◌+◌, ◌-◌, ◌*◌, ◌≤◌, ◌<◌, eqb, length};
 ghost use Rattle.sheet.specs.Format.{most_lots};
 ghost use Rattle.equality.specs.Node.{merged, class_of, classes};

@@ -1,4 +1,6 @@
 // The steps of a walk over a list of records: what a record makes of the walk, by its kind. The limit on the classes is a number, 0 where there is none.
+#![tactic(auto)]
+
 ghost use Rattle.std.specs.Prelude.{◌≡◌, ℕ, ◌+◌, ◌*◌, ◌≤◌, ◌<◌, length, List};
 ghost use Rattle.sheet.specs.Format.{lowest_lot, most_lots, lot_count};
 ghost use Rattle.sheet.specs.Inner.{HasConditions};
