@@ -1,7 +1,7 @@
 // Bytes and two-byte numbers of a buffer. What lies outside it reads as 0 and is not written.
 #![tactic(auto)]
 
-ghost use Rattle.std.specs.Prelude.{◌≡◌, ◌≢◌, ℕ, ◌+◌, ◌*◌, ◌<◌, ◌≤◌, ◌++◌, drop, length, min, set, slice_index, take, ◌%◌, ◌/◌};
+ghost use Rattle.std.specs.Prelude.{◌≡◌, ◌≢◌, ℕ, ◌+◌, ◌-◌, ◌*◌, ◌<◌, ◌≤◌, ◌++◌, drop, length, min, set, slice_index, take, ◌%◌, ◌/◌};
 
 pub fn byte_at(bytes: &[u8], at: usize) -> u8
     ensures { result ≡ slice_index bytes.now at }
@@ -66,16 +66,21 @@ pub fn copy(from: &[u8], to: &mut [u8]) -> usize
 // Where a field of a record stands, where the records begin at `start`; record 0 is taken as the first.
 fn field(start: usize, r: u16, offset: u8) -> usize
     requires { start ≤ 1000000 }
+    ensures { result ≡ start + 8 * (r - 1) + offset }
 {
     let before = if r == 0 { 0 } else { r - 1 };
     start + 8 * (before as usize) + (offset as usize)
 }
 
 // In a sheet of m conditions, and in a list of nodes.
-pub fn term_field(m: u16, r: u16, offset: u8) -> usize {
+pub fn term_field(m: u16, r: u16, offset: u8) -> usize
+    ensures { result ≡ 6 + 2 * m + 8 * (r - 1) + offset }
+{
     field(6 + 2 * (m as usize), r, offset)
 }
 
-pub fn node_field(r: u16, offset: u8) -> usize {
+pub fn node_field(r: u16, offset: u8) -> usize
+    ensures { result ≡ 8 * (r - 1) + offset }
+{
     field(0, r, offset)
 }
