@@ -2,8 +2,9 @@
 use crate::examine::Counts;
 use crate::{examine, say};
 use generator::{generate, line};
-use libc::STDOUT_FILENO;
 use second_solver::Answer;
+use std::io;
+use std::io::Write;
 use trials::tally::Damage;
 
 // How many sheets are generated for a group, and the generator's first state.
@@ -12,30 +13,29 @@ const GENERATED: u32 = 600;
 const FIRST_STATE: u64 = 1;
 
 // The groups of generated sheets, as they are made and relinked: their lines, and the counts after them.
-pub fn generated_groups() -> Counts {
-    io::write_all(STDOUT_FILENO, b"generated");
+pub fn generated_groups(out: &mut impl Write) -> io::Result<Counts> {
+    out.write_all(b"generated")?;
     let made = generated_group(
         examine::new_group(Damage::new(), Damage::new(), Damage::new()),
         false,
-    );
-    io::write_all(STDOUT_FILENO, b"relinked");
-    generated_group(made, true)
+        out,
+    )?;
+    out.write_all(b"relinked")?;
+    generated_group(made, true, out)
 }
 
-fn generated_group(first: Counts, relinked: bool) -> Counts {
+fn generated_group(first: Counts, relinked: bool, out: &mut impl Write) -> io::Result<Counts> {
     let mut sheet = [0u8; 1024];
     let counts = generated(&mut sheet, first, relinked);
-    end_group(counts)
+    end_group(counts, out)
 }
 
 fn generated(sheet: &mut [u8], first: Counts, relinked: bool) -> Counts {
     let mut counts = first;
     let mut state = FIRST_STATE;
-    let mut left = GENERATED;
-    while 0 < left {
+    for _ in 0..GENERATED {
         state = sheet_after(sheet, state, relinked);
         counts = examine_start(sheet, counts);
-        left -= 1;
     }
     counts
 }
@@ -68,38 +68,38 @@ fn unknown() -> Answer {
 }
 
 // All lines of the text.
-pub fn lines(text: &[u8], first: Counts) -> Counts {
+pub fn lines(text: &[u8], first: Counts, out: &mut impl Write) -> io::Result<Counts> {
     let mut counts = first;
     let mut at: usize = 0;
     while at < text.len() {
-        let end = bytes::scan::find(text, at, text.len(), b'\n');
-        counts = one_line(&text[at..end], counts);
+        let end = raw::find(text, at, text.len(), b'\n');
+        counts = one_line(&text[at..end], counts, out)?;
         at = if end < text.len() { end + 1 } else { end };
     }
-    counts
+    Ok(counts)
 }
 
-fn one_line(text: &[u8], counts: Counts) -> Counts {
+fn one_line(text: &[u8], counts: Counts, out: &mut impl Write) -> io::Result<Counts> {
     match raw::byte_at(text, 0) {
-        b'g' => begin_group(text, counts),
-        b'e' => end_group(counts),
-        b'm' => case(text, 1, counts),
-        b'c' => case(text, 2, counts),
-        _ => case(text, 3, counts),
+        b'g' => begin_group(text, counts, out),
+        b'e' => end_group(counts, out),
+        b'm' => Ok(case(text, 1, counts)),
+        b'c' => Ok(case(text, 2, counts)),
+        _ => Ok(case(text, 3, counts)),
     }
 }
 
 // The name of a group, after the word that begins its line.
-fn begin_group(text: &[u8], counts: Counts) -> Counts {
+fn begin_group(text: &[u8], counts: Counts, out: &mut impl Write) -> io::Result<Counts> {
     if 6 < text.len() {
-        io::write_all(STDOUT_FILENO, &text[6..]);
+        out.write_all(&text[6..])?;
     }
-    counts
+    Ok(counts)
 }
 
 // The sheet of a line, and the answer that the line wants.
 fn case(text: &[u8], kind: u8, counts: Counts) -> Counts {
-    let colon = bytes::scan::find(text, 0, text.len(), b':');
+    let colon = raw::find(text, 0, text.len(), b':');
     let answer = wanted(&text[..colon], kind);
     examine_digits(&text[colon..], answer, counts)
 }
@@ -120,8 +120,7 @@ fn examine_digits(digits: &[u8], wanted: Answer, counts: Counts) -> Counts {
 }
 
 // The line of a group, after its name.
-fn end_group(counts: Counts) -> Counts {
-    let tally = counts.tally;
-    say::tally(tally);
-    examine::new_group(counts.lists, counts.sheets, counts.withdrawn)
+fn end_group(counts: Counts, out: &mut impl Write) -> io::Result<Counts> {
+    say::tally(counts.tally, out)?;
+    Ok(examine::new_group(counts.lists, counts.sheets, counts.withdrawn))
 }

@@ -16,25 +16,36 @@
 //
 // The second solver and the second statement of the checks are the crate `second_solver`, the generator is `generator`. The services' answers as numbers, what is
 // damaged and what is counted are the crate `trials`.
+#![tactic(auto)]
+
 mod examine; // examine.rt: one sheet, before all solvers and services
 mod groups; // groups.rt: the groups of sheets
 mod say; // say.rt: the lines of the output
 
-use libc::STDIN_FILENO;
+use std::io;
+use std::io::{Read, Write};
 
-fn main() {
-    let mut text = [0u8; 49152];
-    let n = io::read_full(STDIN_FILENO, &mut text);
-    let generated = groups::generated_groups();
-    let counts = groups::lines(&text[..n], generated);
-    say::damage(b"damaged lists", counts.lists);
-    say::damage(b"damaged sheets", counts.sheets);
-    say::damage(b"withdrawn conditions", counts.withdrawn);
-    say::ground_of_withdrawn();
-    say::ground_of_zero();
-    say::split(0, 0);
-    say::split(0, 1);
-    say::split(1, 0);
-    say::splits(1024);
-    say::splits(1025);
+// The most bytes of standard input that are read.
+const MOST_TEXT: u64 = 49152;
+
+fn main(rt: HostRuntime) -> io::Result<()> {
+    let mut text = Vec::new(rt.alloc());
+    rt.reader().take(MOST_TEXT).read_to_end(&mut text)?;
+    run(&text, &mut io::writer(&rt))
+}
+
+// All groups of sheets, what was damaged, and the lists that are not of a search.
+fn run(text: &[u8], out: &mut impl Write) -> io::Result<()> {
+    let generated = groups::generated_groups(out)?;
+    let counts = groups::lines(text, generated, out)?;
+    say::damage("damaged lists", counts.lists, out)?;
+    say::damage("damaged sheets", counts.sheets, out)?;
+    say::damage("withdrawn conditions", counts.withdrawn, out)?;
+    say::ground_of_withdrawn(out)?;
+    say::ground_of_zero(out)?;
+    say::split(0, 0, out)?;
+    say::split(0, 1, out)?;
+    say::split(1, 0, out)?;
+    say::splits(1024, out)?;
+    say::splits(1025, out)
 }

@@ -1,77 +1,76 @@
 // The lines of the output.
 ghost use Rattle.std.specs.Prelude.{◌≤◌};
 
-use libc::STDOUT_FILENO;
 use second_solver::Answer;
+use std::io;
+use std::io::Write;
 use trials::splits;
 use trials::tally::{Damage, Tally};
 
-fn field(label: &[u8], x: u32) {
-    io::write_all(STDOUT_FILENO, label);
-    io::print_decimal(STDOUT_FILENO, x as u64);
-}
-
 // The line of a group, after its name.
-pub fn tally(tally: Tally) {
-    field(b": sheets ", tally.sheets);
-    field(b" met ", tally.met);
-    field(b" cannot ", tally.cannot);
-    field(b" refused ", tally.refused);
-    field(b" nodes ", tally.nodes);
-    field(b" untested ", tally.untested);
-    field(b" differ ", tally.differ);
-    io::write_all(STDOUT_FILENO, b"\n");
+pub fn tally(tally: Tally, out: &mut impl Write) -> io::Result<()> {
+    let Tally {
+        sheets,
+        met,
+        cannot,
+        refused,
+        nodes,
+        untested,
+        differ,
+    } = tally;
+    writeln!(
+        out,
+        ": sheets {sheets} met {met} cannot {cannot} refused {refused} nodes {nodes} untested {untested} differ {differ}",
+    )
 }
 
-pub fn damage(label: &[u8], damage: Damage) {
-    io::write_all(STDOUT_FILENO, label);
-    field(b": tried ", damage.tried);
-    field(b" passed ", damage.passed);
-    field(b" wrong ", damage.wrong);
-    field(b" untested ", damage.untested);
-    field(b" differ ", damage.differ);
-    io::write_all(STDOUT_FILENO, b"\n");
+pub fn damage(label: &str, damage: Damage, out: &mut impl Write) -> io::Result<()> {
+    let Damage {
+        tried,
+        passed,
+        wrong,
+        untested,
+        differ,
+    } = damage;
+    writeln!(
+        out,
+        "{label}: tried {tried} passed {passed} wrong {wrong} untested {untested} differ {differ}",
+    )
 }
 
 // What the checker says of a list.
-fn checked(answer: Answer) {
+fn checked(answer: Answer, out: &mut impl Write) -> io::Result<()> {
     if answer.kind == 1 {
-        io::write_all(STDOUT_FILENO, b": passed");
+        writeln!(out, ": passed")
     } else {
-        field(b": refused ", answer.first);
-        field(b" ", answer.second);
+        let check = answer.first;
+        let place = answer.second;
+        writeln!(out, ": refused {check} {place}")
     }
-    io::write_all(STDOUT_FILENO, b"\n");
 }
 
 // A ground that names a withdrawn condition.
-pub fn ground_of_withdrawn() {
-    let answer = splits::ground_of_withdrawn();
-    io::write_all(STDOUT_FILENO, b"ground of a withdrawn condition");
-    checked(answer);
+pub fn ground_of_withdrawn(out: &mut impl Write) -> io::Result<()> {
+    write!(out, "ground of a withdrawn condition")?;
+    checked(splits::ground_of_withdrawn(), out)
 }
 
 // A ground that names condition 0: unlike lot 0, there is none.
-pub fn ground_of_zero() {
-    let answer = splits::ground_of_zero();
-    io::write_all(STDOUT_FILENO, b"ground of condition 0");
-    checked(answer);
+pub fn ground_of_zero(out: &mut impl Write) -> io::Result<()> {
+    write!(out, "ground of condition 0")?;
+    checked(splits::ground_of_zero(), out)
 }
 
 // A split of these lots, for a sheet that has none but lot 0.
-pub fn split(a: u16, b: u16) {
-    let answer = splits::split_of(a, b);
-    field(b"split of lots ", a as u32);
-    field(b" and ", b as u32);
-    io::write_all(STDOUT_FILENO, b" where n is 0");
-    checked(answer);
+pub fn split(a: u16, b: u16, out: &mut impl Write) -> io::Result<()> {
+    write!(out, "split of lots {a} and {b} where n is 0")?;
+    checked(splits::split_of(a, b), out)
 }
 
 // A list with so many splits on a path.
-pub fn splits(s: u16)
+pub fn splits(s: u16, out: &mut impl Write) -> io::Result<()>
     requires { s ≤ 1025 }
 {
-    let answer = splits::splits_on_a_path(s);
-    field(b"splits on a path ", s as u32);
-    checked(answer);
+    write!(out, "splits on a path {s}")?;
+    checked(splits::splits_on_a_path(s), out)
 }

@@ -91,9 +91,7 @@ fn add_term(sheet: &mut [u8], zero: bool, count: u16, m: u16, made: Made, last: 
 // So many terms of one condition.
 fn add_terms(sheet: &mut [u8], zero: bool, count: u16, m: u16, terms: u16, first: Made) -> Made {
     let mut made = first;
-    let mut left = terms;
-    while 0 < left {
-        left -= 1;
+    for left in (0..terms).rev() {
         made = add_term(sheet, zero, count, m, made, left == 0);
     }
     made
@@ -129,10 +127,8 @@ fn add_condition(sheet: &mut [u8], zero: bool, count: u16, m: u16, c: u16, made:
 // All m conditions, one after the other.
 fn add_conditions(sheet: &mut [u8], zero: bool, count: u16, m: u16, state: u64) -> Made {
     let mut made = Made { state, terms: 0 };
-    let mut c: u16 = 0;
-    while c < m {
+    for c in 0..m {
         made = add_condition(sheet, zero, count, m, c, made);
-        c += 1;
     }
     made
 }

@@ -26,14 +26,11 @@ fn with_digit(value: u32, byte: u8) -> u32 {
 pub fn number(text: &[u8], word: u8) -> u32 {
     let mut value: u32 = 0;
     let mut begun: u8 = 0;
-    let mut i: usize = 0;
-    while i < text.len() {
-        let byte = text[i];
-        begun = words(begun, byte);
+    for byte in text {
+        begun = words(begun, *byte);
         if begun == word {
-            value = with_digit(value, byte);
+            value = with_digit(value, *byte);
         }
-        i += 1;
     }
     value
 }

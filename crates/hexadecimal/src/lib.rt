@@ -1,4 +1,6 @@
 // Bytes from their hexadecimal digits.
+#![tactic(auto)]
+
 ghost use Rattle.std.specs.Prelude.{◌≤◌, length};
 
 // The byte that is no digit's value.
@@ -22,10 +24,8 @@ pub fn decode(text: &[u8], bytes: &mut [u8]) -> usize
 {
     let mut n: usize = 0;
     let mut high = NO_DIGIT;
-    let mut i: usize = 0;
-    while i < text.len() {
-        let value = digit(text[i]);
-        i += 1;
+    for byte in text {
+        let value = digit(*byte);
         if value == NO_DIGIT {
             continue;
         }

@@ -1,10 +1,15 @@
 // Prints a search: reads a sheet from standard input, and writes the search's text to standard output. What it writes is `text::print`'s.
-use libc::{STDIN_FILENO, STDOUT_FILENO};
+#![tactic(auto)]
 
-fn main() {
-    let mut input = [0u8; text::MOST_INPUT];
+use std::io;
+use std::io::{Read, Write};
+
+fn main(rt: HostRuntime) -> io::Result<()> {
+    let mut input = Vec::new(rt.alloc());
+    rt.reader()
+        .take(text::MOST_INPUT as u64)
+        .read_to_end(&mut input)?;
     let mut out = [0u8; text::TEXT_ROOM];
-    let n = io::read_full(STDIN_FILENO, &mut input);
-    let len = text::print(&input[..n], &mut out);
-    io::write_all(STDOUT_FILENO, &out[..len]);
+    let len = text::print(&input, &mut out);
+    io::writer(&rt).write_all(&out[..len])
 }

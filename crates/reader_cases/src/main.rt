@@ -5,39 +5,52 @@
 // A plain sheet of N lots and M conditions, whose first chain has K records, each "same 1 1", and the changes made to it in turn, each a
 // letter and two numbers: h C R sets the head of condition C to R; of record R, s R V sets the sign, p R V the spare byte, a R V and b R V the
 // lots, x R V the next; v R 0 makes record R vacant; l LENGTH 0 cuts the sheet, or lengthens it. Standard output has the label and the answer.
+#![tactic(auto)]
+
 mod line; // line.rt: places and numbers in the text
 mod plain; // plain.rt: the sheet in the making
 
-ghost use Rattle.std.specs.Prelude.{◌<◌, ◌≤◌, length};
+ghost use Rattle.std.specs.Prelude.{◌<◌, ◌≤◌, length, IfOk};
 
-use libc::{STDIN_FILENO, STDOUT_FILENO};
 use sheet::Reading;
+use std::io;
+use std::io::{Read, Write};
 
-fn main() {
-    let mut text = [0u8; 8192];
-    let n = io::read_full(STDIN_FILENO, &mut text);
-    cases(&text[..n]);
+// The most bytes of standard input that are read.
+const MOST_TEXT: u64 = 8192;
+
+fn main(rt: HostRuntime) -> io::Result<()> {
+    let mut text = Vec::new(rt.alloc());
+    rt.reader().take(MOST_TEXT).read_to_end(&mut text)?;
+    cases(&text, &mut io::writer(&rt))
 }
 
-fn cases(text: &[u8]) {
+fn cases(text: &[u8], out: &mut impl Write) -> io::Result<()> {
     let mut bytes = [0u8; plain::ROOM];
     let mut at = 0;
     while at < text.len() {
-        at = case(text, at, &mut bytes);
+        at = case(text, at, &mut bytes, out)?;
     }
+    Ok(())
 }
 
 // One line; the place after it.
-fn case(text: &[u8], at: usize, bytes: &mut [u8; plain::ROOM]) -> usize
+fn case(
+    text: &[u8],
+    at: usize,
+    bytes: &mut [u8; plain::ROOM],
+    out: &mut impl Write,
+) -> io::Result<usize>
     requires { at < length text.now }
-    ensures { (at < result) × (result ≤ length text.now) }
+    ensures low { IfOk result (λ after. at < after) }
+    ensures high { IfOk result (λ after. after ≤ length text.now) }
 {
     let label = line::find(text, at, b':');
     let end = line::find(text, label, b'\n');
-    io::write_all(STDOUT_FILENO, &text[at..label]);
+    out.write_all(&text[at..label])?;
     let len = sheet_of(&text[label..end], bytes);
-    answer(&bytes[..], len);
-    if end < text.len() { end + 1 } else { end }
+    answer(&bytes[..], len, out)?;
+    Ok(if end < text.len() { end + 1 } else { end })
 }
 
 // The sheet that a line describes from its colon on, made in `bytes`; its length.
@@ -74,34 +87,20 @@ fn changes(text: &[u8], at: usize, bytes: &mut [u8; plain::ROOM], m: u16, len: u
 }
 
 // What the reader answers to the first bytes.
-fn answer(bytes: &[u8], len: usize) {
+fn answer(bytes: &[u8], len: usize, out: &mut impl Write) -> io::Result<()> {
     if len <= bytes.len() {
-        say(reader::read(&bytes[..len]));
+        say(reader::read(&bytes[..len]), out)?;
     }
+    Ok(())
 }
 
-fn say(reading: Reading) {
+fn say(reading: Reading, out: &mut impl Write) -> io::Result<()> {
     match reading {
         Reading::Accepted {
             lots,
             conditions,
             records,
-        } => {
-            io::write_all(STDOUT_FILENO, b": accepted");
-            field(lots as u64);
-            field(conditions as u64);
-            field(records as u64);
-        }
-        Reading::Refused { check, place } => {
-            io::write_all(STDOUT_FILENO, b": refused");
-            field(check as u64);
-            field(place as u64);
-        }
+        } => writeln!(out, ": accepted {lots} {conditions} {records}"),
+        Reading::Refused { check, place } => writeln!(out, ": refused {check} {place}"),
     }
-    io::write_all(STDOUT_FILENO, b"\n");
-}
-
-fn field(x: u64) {
-    io::write_all(STDOUT_FILENO, b" ");
-    io::print_decimal(STDOUT_FILENO, x);
 }

@@ -1,5 +1,7 @@
 // What the program `compare` holds the services to: a second solver, and checks 1 to 8 and 17 stated a second time. It works on a sheet's bytes as they stand,
 // and shares no code with the services, nor with what they stand on.
+#![tactic(auto)]
+
 pub mod partitions; // partitions.rt: the second solver
 pub mod table; // table.rt: checks 1 to 8 and 17, a second time
 

@@ -21,7 +21,7 @@ fn with_name(names: &mut [u8], count: usize, lot: u16) -> usize {
     if names.len() < count {
         return count;
     }
-    if bytes::scan::find(names, 0, count, short(lot)) < count {
+    if raw::find(names, 0, count, short(lot)) < count {
         return count;
     }
     raw::put(names, count, short(lot));
@@ -42,17 +42,15 @@ fn with_names_of(sheet: &[u8], m: u16, r: u16, names: &mut [u8], count: usize) -
 // The lots that the records name; how many they are.
 fn name_lots(sheet: &[u8], m: u16, k: u16, names: &mut [u8]) -> usize {
     let mut count: usize = 0;
-    let mut r = k;
-    while 0 < r {
+    for r in (1..=k).rev() {
         count = with_names_of(sheet, m, r, names, count);
-        r -= 1;
     }
     count
 }
 
 // The group of a lot that is named. Places without a name are 0 and come last, so that lot 0, where it is named, is found at its own.
 fn group_of(names: &[u8], groups: &[u8], lot: u16) -> u8 {
-    raw::byte_at(groups, bytes::scan::find(names, 0, names.len(), short(lot)))
+    raw::byte_at(groups, raw::find(names, 0, names.len(), short(lot)))
 }
 
 fn term_true(sheet: &[u8], m: u16, r: u16, names: &[u8], groups: &[u8]) -> bool {
@@ -69,8 +67,7 @@ fn term_true(sheet: &[u8], m: u16, r: u16, names: &[u8], groups: &[u8]) -> bool 
 // Whether some term of the chain is true. A chain has at most 1,024 terms.
 fn some_term_true(sheet: &[u8], m: u16, head: u16, names: &[u8], groups: &[u8]) -> bool {
     let mut r = head;
-    let mut left: u16 = 1024;
-    while 0 < left {
+    for _ in 0..1024 {
         if r == 0 {
             return false;
         }
@@ -78,7 +75,6 @@ fn some_term_true(sheet: &[u8], m: u16, head: u16, names: &[u8], groups: &[u8]) 
             return true;
         }
         r = raw::number_at(sheet, raw::term_field(m, r, 6));
-        left -= 1;
     }
     false
 }
@@ -93,13 +89,11 @@ fn condition_met(sheet: &[u8], m: u16, head: u16, names: &[u8], groups: &[u8]) -
 
 // Whether every condition is met.
 fn all_conditions_met(sheet: &[u8], m: u16, names: &[u8], groups: &[u8]) -> bool {
-    let mut c: u16 = 0;
-    while c < m {
+    for c in 0..m {
         let head = raw::number_at(sheet, 6 + 2 * (c as usize));
         if !condition_met(sheet, m, head, names, groups) {
             return false;
         }
-        c += 1;
     }
     true
 }
@@ -107,22 +101,15 @@ fn all_conditions_met(sheet: &[u8], m: u16, names: &[u8], groups: &[u8]) -> bool
 // The highest group of the first lots.
 fn highest(groups: &[u8], lots: usize) -> u8 {
     let mut most: u8 = 0;
-    let mut i: usize = 0;
-    while i < lots {
-        let group = raw::byte_at(groups, i);
-        if most < group {
-            most = group;
-        }
-        i += 1;
+    for i in 0..lots {
+        most = most.max(raw::byte_at(groups, i));
     }
     most
 }
 
 // The last place whose lot can go to the group after its own; 0 if there is none. The first lot stays where it is.
 fn last_movable(groups: &[u8], lots: usize) -> usize {
-    let mut i = lots;
-    while 1 < i {
-        i -= 1;
+    for i in (1..lots).rev() {
         if raw::byte_at(groups, i) <= highest(groups, i) {
             return i;
         }
@@ -130,14 +117,10 @@ fn last_movable(groups: &[u8], lots: usize) -> usize {
     0
 }
 
-// Lots go back to the first group, from a place on.
+// Lots go back to the first group, after a place.
 fn clear_after(groups: &mut [u8], at: usize) {
-    let mut i = groups.len();
-    while at < i {
-        i -= 1;
-        if at < i {
-            raw::put(groups, i, 0);
-        }
+    if at < groups.len() {
+        groups[at + 1..].fill(0);
     }
 }
 
@@ -160,15 +143,13 @@ fn advance(groups: &mut [u8], lots: usize) -> bool {
 
 // Whether some way from this one on meets every condition.
 fn some_way(sheet: &[u8], m: u16, lots: usize, names: &[u8], groups: &mut [u8]) -> bool {
-    let mut left = WAYS;
-    while 0 < left {
+    for _ in 0..WAYS {
         if all_conditions_met(sheet, m, names, groups) {
             return true;
         }
         if !advance(groups, lots) {
             return false;
         }
-        left -= 1;
     }
     false
 }

@@ -51,9 +51,7 @@ fn sheet_byte(sheet: &mut [u8], list: &[u8], at: usize, way: u8, damage: Damage)
 // Every byte of the list.
 pub fn lists(sheet: &[u8], list: &mut [u8], damage: Damage) -> Damage {
     let mut now = damage;
-    let mut at = list.len();
-    while 0 < at {
-        at -= 1;
+    for at in (0..list.len()).rev() {
         now = list_byte(sheet, list, at, 0, now);
         now = list_byte(sheet, list, at, 1, now);
         now = list_byte(sheet, list, at, 2, now);
@@ -64,9 +62,7 @@ pub fn lists(sheet: &[u8], list: &mut [u8], damage: Damage) -> Damage {
 // Every byte of the sheet.
 fn sheets(sheet: &mut [u8], list: &[u8], damage: Damage) -> Damage {
     let mut now = damage;
-    let mut at = sheet.len();
-    while 0 < at {
-        at -= 1;
+    for at in (0..sheet.len()).rev() {
         now = sheet_byte(sheet, list, at, 0, now);
         now = sheet_byte(sheet, list, at, 1, now);
         now = sheet_byte(sheet, list, at, 2, now);
@@ -80,7 +76,7 @@ pub fn copied(sheet: &[u8], list: &[u8], damage: Damage) -> Damage {
     if 2048 < sheet.len() {
         return damage;
     }
-    let n = bytes::copy(sheet, &mut copy);
+    let n = raw::copy(sheet, &mut copy);
     sheets(&mut copy[..n], list, damage)
 }
 
@@ -115,16 +111,14 @@ fn condition(sheet: &[u8], list: &[u8], c: u16, damage: Damage) -> Damage {
     if 2048 < sheet.len() {
         return damage;
     }
-    let n = bytes::copy(sheet, &mut copy);
+    let n = raw::copy(sheet, &mut copy);
     in_three_ways(&mut copy[..n], list, c, damage)
 }
 
 // Every condition of the sheet.
 pub fn conditions(sheet: &[u8], list: &[u8], damage: Damage) -> Damage {
     let mut now = damage;
-    let mut c = raw::number_at(sheet, 2);
-    while 0 < c {
-        c -= 1;
+    for c in (0..raw::number_at(sheet, 2)).rev() {
         now = condition(sheet, list, c, now);
     }
     now

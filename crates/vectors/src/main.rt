@@ -4,79 +4,86 @@
 // A case is the service in one byte (0 read, 1 search, 2 check, 3 evaluate), then three buffers, each its length in four bytes, low byte first, and its bytes:
 // the sheet; the grouping or the list; the store. A line of output is the service, the answer as four numbers, and a checksum of the second and of the third
 // buffer after the call. The program compares nothing itself.
-ghost use Rattle.std.specs.Prelude.{◌≤◌, length};
+#![tactic(auto)]
 
-use libc::STDOUT_FILENO;
+ghost use Rattle.std.specs.Prelude.{◌≤◌, length, IfOk};
+
 use numbers::Numbers;
+use std::fs::File;
+use std::io;
+use std::io::{BufReader, Bytes, Read, Write};
 
-fn main() {
-    let path = b"cases.bin";
-    let fd = os::open_read(path);
-    if fd < 0 {
-        os::fail(path);
-        return;
-    }
-    cases(fd);
+// The most cases that are run, so that there is an end to them whatever the file has.
+const MOST_CASES: u32 = 100000;
+
+fn main(rt: HostRuntime) -> io::Result<()> {
+    let file = File::open(&rt, "cases.bin")?;
+    let mut from = BufReader::new(rt.alloc(), file)?.bytes();
+    cases(&mut from, &mut io::writer(&rt))
 }
 
-// All cases. There is a bound on them, so that the loop ends whatever the file has.
-fn cases(fd: i32) {
-    let mut left: u64 = 100000;
-    while 0 < left {
-        let service = byte(fd);
+// All cases.
+fn cases<R: Read + Drop>(from: &mut Bytes<R>, out: &mut impl Write) -> io::Result<()> {
+    for _ in 0..MOST_CASES {
+        let service = byte(from)?;
         if 3 < service {
-            return;
+            break;
         }
-        case(fd, service);
-        left -= 1;
+        case(from, service, out)?;
     }
+    Ok(())
 }
 
 // One case, read whole and run.
-fn case(fd: i32, service: u8) {
+fn case<R: Read + Drop>(from: &mut Bytes<R>, service: u8, out: &mut impl Write) -> io::Result<()> {
     let mut sheet = [0u8; 4096];
     let mut second = [0u8; 8192];
     let mut third = [0u8; 8192];
-    let a = buffer(fd, &mut sheet);
-    let b = buffer(fd, &mut second);
-    let c = buffer(fd, &mut third);
-    run(service, &sheet[..a], &mut second[..b], &mut third[..c]);
+    let a = buffer(from, &mut sheet)?;
+    let b = buffer(from, &mut second)?;
+    let c = buffer(from, &mut third)?;
+    run(service, &sheet[..a], &mut second[..b], &mut third[..c], out)
 }
 
 // The next byte; 255 at the end of the file.
-fn byte(fd: i32) -> u8 {
-    let mut one = [0u8; 1];
-    let got = io::read_full(fd, &mut one);
-    if got == 1 { one[0] } else { 255 }
+fn byte<R: Read + Drop>(from: &mut Bytes<R>) -> io::Result<u8> {
+    match from.next() {
+        Some(read) => read,
+        None => Ok(255),
+    }
 }
 
 // A buffer's length and its bytes, put at the start of a place for them; how many there are.
-fn buffer(fd: i32, bytes: &mut [u8]) -> usize
-    ensures { result ≤ length bytes.new }
+fn buffer<R: Read + Drop>(from: &mut Bytes<R>, bytes: &mut [u8]) -> io::Result<usize>
+    ensures { IfOk result (λ n. n ≤ length bytes.new) }
 {
-    let n = two_bytes(fd);
-    two_bytes(fd);
+    let n = two_bytes(from)?;
+    two_bytes(from)?;
     if bytes.len() < n {
-        return 0;
+        return Ok(0);
     }
-    let mut i: usize = 0;
-    while i < n {
-        bytes[i] = byte(fd);
-        i += 1;
+    for i in 0..n {
+        bytes[i] = byte(from)?;
     }
-    n
+    Ok(n)
 }
 
-fn two_bytes(fd: i32) -> usize {
-    let low = byte(fd) as usize;
-    let high = byte(fd) as usize;
-    low + 256 * high
+fn two_bytes<R: Read + Drop>(from: &mut Bytes<R>) -> io::Result<usize> {
+    let low = byte(from)? as usize;
+    let high = byte(from)? as usize;
+    Ok(low + 256 * high)
 }
 
 // One case: the call, and its line.
-fn run(service: u8, sheet: &[u8], second: &mut [u8], third: &mut [u8]) {
+fn run(
+    service: u8,
+    sheet: &[u8],
+    second: &mut [u8],
+    third: &mut [u8],
+    out: &mut impl Write,
+) -> io::Result<()> {
     let answer = call(service, sheet, second, third);
-    say(service, answer, second, third);
+    say(service, answer, second, third, out)
 }
 
 fn call(service: u8, sheet: &[u8], second: &mut [u8], third: &mut [u8]) -> Numbers {
@@ -91,20 +98,23 @@ fn call(service: u8, sheet: &[u8], second: &mut [u8], third: &mut [u8]) -> Numbe
     }
 }
 
-fn say(service: u8, answer: Numbers, second: &[u8], third: &[u8]) {
-    io::print_decimal(STDOUT_FILENO, service as u64);
-    field(answer.check as u64);
-    field(answer.first as u64);
-    field(answer.second as u64);
-    field(answer.third as u64);
-    field(checksum(second));
-    field(checksum(third));
-    io::write_all(STDOUT_FILENO, b"\n");
-}
-
-fn field(x: u64) {
-    io::write_all(STDOUT_FILENO, b" ");
-    io::print_decimal(STDOUT_FILENO, x);
+fn say(
+    service: u8,
+    answer: Numbers,
+    second: &[u8],
+    third: &[u8],
+    out: &mut impl Write,
+) -> io::Result<()> {
+    writeln!(
+        out,
+        "{service} {} {} {} {} {} {}",
+        answer.check,
+        answer.first,
+        answer.second,
+        answer.third,
+        checksum(second),
+        checksum(third),
+    )
 }
 
 // The sum of (position from 1) × byte, modulo 65,521: a byte is counted once for each position up to its own, so from the last byte down the sums of what
@@ -112,10 +122,8 @@ fn field(x: u64) {
 fn checksum(bytes: &[u8]) -> u64 {
     let mut sum: u64 = 0;
     let mut passed: u64 = 0;
-    let mut i = bytes.len();
-    while 0 < i {
-        i -= 1;
-        passed = (passed + (bytes[i] as u64)) % 65521;
+    for byte in bytes.iter().rev() {
+        passed = (passed + (*byte as u64)) % 65521;
         sum = (sum + passed) % 65521;
     }
     sum
