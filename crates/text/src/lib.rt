@@ -1,4 +1,6 @@
 // The printing program's work: from the bytes that it reads to the bytes that it writes.
+#![tactic(auto)]
+
 mod texts; // texts.rt: the whole texts
 
 ghost use Rattle.std.specs.Prelude.{◌≤◌, length};
