@@ -1,5 +1,7 @@
 // The refutation checker: whether a list of records, from any hand, refutes a sheet, with a limit on the classes or without one. Inner functions take the
 // limit as a number, 0 where there is none.
+#![tactic(auto)]
+
 ghost use Rattle.std.specs.Prelude.{◌≡◌, not, ◌||◌, ◌/◌, ◌%◌, ◌≤◌, ltb, eqb, length};
 ghost use Rattle.sheet.specs.Format.{lowest_lot};
 ghost use Rattle.store.specs.Records.{record_length, most_nodes};
