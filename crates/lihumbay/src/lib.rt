@@ -1,4 +1,6 @@
 // The services, with their answers as four numbers: what callers in C and Rust get. `lihumbay_c` exports each function for them.
+#![tactic(auto)]
+
 ghost use Rattle.std.specs.Prelude.{◌≡◌, max};
 ghost use Rattle.sheet.specs.Format.{lot_count};
 ghost use Rattle.sheet.specs.Checks.{Accepted};

@@ -1,4 +1,6 @@
 // An answer as four numbers, for callers in C and Rust.
+#![tactic(auto)]
+
 ghost use Rattle.std.specs.Prelude.{◌≡◌};
 ghost use Rattle.sheet.specs.Answers.{refused, answered, reading_answer};
 ghost use Rattle.evaluator.specs.Answers.{evaluation_answer};

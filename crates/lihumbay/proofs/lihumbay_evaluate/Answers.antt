@@ -1,0 +1,11 @@
+-- `lihumbay::lihumbay_evaluate`: the numbers of the evaluator's answer.
+use mathlib.Core.Path.{ap, ◌∙◌}
+use Rattle.evaluator.specs.Answers.{evaluation_answer}
+use Rattle.numbers.specs.Answers.{numbers_of}
+use Rattle.lihumbay.proofs.Promised.{first_unmet}
+use borrow.Author.Rules.{rules}
+use Rattle.lihumbay.proofs.lihumbay_evaluate.Goals as goal
+
+pub returns : goal.returns
+returns c =
+    let start = c.args in record { answer = c.of_evaluation.ensures ∙ ap numbers_of c.evaluate.ensures.answer; meaning = rw c.of_evaluation.ensures (first_unmet start.sheet.now start.grouping.now (evaluation_answer c.evaluate.result) c.evaluate.ensures.answer c.evaluate.ensures.meaning) }

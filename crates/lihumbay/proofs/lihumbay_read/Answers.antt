@@ -1,0 +1,10 @@
+-- `lihumbay::lihumbay_read`: the numbers of the reader's answer.
+use mathlib.Core.Path.{ap, ◌∙◌}
+use Rattle.numbers.specs.Answers.{numbers_of}
+use Rattle.lihumbay.proofs.Promised.{zero_exactly}
+use borrow.Author.Rules.{rules}
+use Rattle.lihumbay.proofs.lihumbay_read.Goals as goal
+
+pub returns : goal.returns
+returns c =
+    record { answer = c.of_reading.ensures ∙ ap numbers_of c.read.ensures; accepted = rw c.of_reading.ensures (zero_exactly c.args.sheet.now c.read.result c.read.ensures) }

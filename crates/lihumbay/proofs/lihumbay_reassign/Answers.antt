@@ -1,0 +1,25 @@
+-- `lihumbay::lihumbay_reassign`: the numbers of the answer, and the grouping as the reassignment leaves it.
+use mathlib.Core.Path.{ap, ◌∙◌}
+use Rattle.counter.specs.Answers.{counting_answer}
+use Rattle.numbers.specs.Answers.{numbers_of}
+use Rattle.lihumbay.proofs.Promised.{zero_counted, right_accepted}
+use borrow.Author.Rules.{rules}
+use Rattle.lihumbay.proofs.lihumbay_reassign.Goals as goal
+
+pub returns : goal.returns
+returns c =
+    let args = c.args in
+    let s = args.sheet.now in
+    let grouping = args.grouping.now in
+    let grouping' = c.reassign.new.grouping in
+    let a = counting_answer c.reassign.result in
+    let promised = c.reassign.ensures.1.1 in (
+      c.of_counting.ensures ∙ ap numbers_of c.reassign.ensures.answer,
+      (
+        c.reassign.ensures.grouping,
+        rw c.of_counting.ensures (
+          zero_counted s grouping args.count args.lot args.value grouping' a c.reassign.ensures.answer promised.0,
+          right_accepted s grouping args.count args.lot args.value grouping' a promised.0 promised.1,
+        ),
+      ),
+    )

@@ -1,0 +1,32 @@
+-- `lihumbay::lihumbay_repack`: the numbers of the answer, and the output as repacking leaves it.
+use Prim.Native.Nat.{ℕ}
+use mathlib.Core.List.{List}
+use mathlib.Core.Path.{◌≡◌, ap, ◌∙◌}
+use Rattle.writer.specs.Answers.{written_answer}
+use Rattle.repack.specs.Repack.{repacked}
+use Rattle.repack.specs.Promises.{Alike, ServedAlike}
+use Rattle.numbers.specs.Answers.{numbers_of}
+use Rattle.lihumbay.proofs.Promised.{zero_written, repack_first}
+use borrow.Author.Rules.{rules}
+use Rattle.lihumbay.proofs.lihumbay_repack.Goals as goal
+
+pub returns : goal.returns
+returns c =
+    let begin = c.args in
+    let s = begin.sheet.now in
+    let out' = c.repack.new.out in
+    let a = written_answer c.repack.result in
+    let first = repack_first s begin.out.now a c.repack.ensures.answer in
+    let promised = c.repack.ensures.1.1 in (
+      c.of_written.ensures ∙ ap numbers_of c.repack.ensures.answer,
+      (
+        c.repack.ensures.output,
+        rw c.of_written.ensures (
+          zero_written (λ (w : List ℕ). Alike w s) out' a first promised.0,
+          (
+            zero_written (λ (w : List ℕ). repacked w ≡ w) out' a first promised.1.0,
+            zero_written (λ (w : List ℕ). ServedAlike w s) out' a first promised.1.1,
+          ),
+        ),
+      ),
+    )

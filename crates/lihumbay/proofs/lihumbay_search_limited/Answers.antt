@@ -1,0 +1,19 @@
+-- `lihumbay::lihumbay_search_limited`: the numbers of the search's answer, and the two buffers as it leaves them.
+use mathlib.Core.Path.{ap, ◌∙◌}
+use Rattle.limit.specs.Meaning.{up_to}
+use Rattle.search.specs.Answers.{search_answer}
+use Rattle.search.proofs.Promised.{refused-first}
+use Rattle.numbers.specs.Answers.{numbers_of}
+use Rattle.lihumbay.proofs.Promised.{nine_under, one_under, one_meets_under, one_zero_under, two_under, two_whichever_under, two_refutes_under}
+use borrow.Author.Rules.{rules}
+use Rattle.lihumbay.proofs.lihumbay_search_limited.Goals as goal
+
+pub returns : goal.returns
+returns c =
+    let begin = c.args in
+    let s = begin.sheet.now in
+    let limit = up_to begin.limit in
+    let a = search_answer c.search_limited.result in
+    let first = refused-first limit s begin.grouping.now begin.store.now a c.search_limited.ensures.answer in
+    let promised = c.search_limited.ensures.1.1.1.1.1 in
+    let cases = promised.1.1.1 in record { answer = c.of_search.ensures ∙ ap numbers_of c.search_limited.ensures.answer; grouping = c.search_limited.ensures.grouping; store = c.search_limited.ensures.store; full = rw c.of_search.ensures (nine_under limit s begin.grouping.now begin.store.now a promised.0 promised.1.0); met = rw c.of_search.ensures (one_under limit s a first promised.1.1.0); meets = rw c.of_search.ensures (one_meets_under limit s c.search_limited.new.grouping a first cases.0); zero = rw c.of_search.ensures (one_zero_under limit s c.search_limited.new.grouping a first cases.1.0); cannot = rw c.of_search.ensures (two_under limit s a first cases.1.1.0); whichever = rw c.of_search.ensures (two_whichever_under limit s a first cases.1.1.1.0); refutes = rw c.of_search.ensures (two_refutes_under limit s c.search_limited.new.store a first cases.1.1.1.1) }
