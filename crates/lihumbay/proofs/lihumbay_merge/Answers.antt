@@ -22,26 +22,13 @@ returns c =
     let out' = c.merge.new.out in
     let a = merged_answer c.merge.result in
     let sheet = sheet_refused c.merge.result in
-    let first = merge_first s t begin.out.now a c.merge.ensures.answer in
-    let promised = c.merge.ensures.1.1.1 in (
-      c.of_merge.ensures ∙ ap₂ merge_numbers c.merge.ensures.answer c.merge.ensures.sheet,
-      (
-        c.merge.ensures.output,
-        rw c.of_merge.ensures (
-          zero_merged (λ (w : List ℕ). Accepted w) out' a sheet first promised.0,
-          (
-            zero_merged (λ (w : List ℕ). repacked w ≡ w) out' a sheet first promised.1.0,
-            (
-              zero_merged (λ (w : List ℕ). lot_count w ≡ max (lot_count s) (lot_count t)) out' a sheet first promised.1.1.0,
-              (
-                zero_merged (λ (w : List ℕ). conditions w ≡ merged_conditions has_terms s t) out' a sheet first promised.1.1.1.0,
-                (
-                  zero_merged (λ (w : List ℕ). MeetsBoth w s t) out' a sheet first promised.1.1.1.1.0,
-                  zero_merged (λ (w : List ℕ). Placed w s t) out' a sheet first promised.1.1.1.1.1,
-                ),
-              ),
-            ),
-          ),
-        ),
-      ),
-    )
+    let first = merge_first s t begin.out.now a c.merge.ensures.answer in record {
+      answer = c.of_merge.ensures ∙ ap₂ merge_numbers c.merge.ensures.answer c.merge.ensures.sheet;
+      output = c.merge.ensures.output;
+      accepted = rw c.of_merge.ensures (zero_merged (λ (w : List ℕ). Accepted w) out' a sheet first c.merge.ensures.accepted);
+      packed = rw c.of_merge.ensures (zero_merged (λ (w : List ℕ). repacked w ≡ w) out' a sheet first c.merge.ensures.packed);
+      lots = rw c.of_merge.ensures (zero_merged (λ (w : List ℕ). lot_count w ≡ max (lot_count s) (lot_count t)) out' a sheet first c.merge.ensures.lots);
+      conditions = rw c.of_merge.ensures (zero_merged (λ (w : List ℕ). conditions w ≡ merged_conditions has_terms s t) out' a sheet first c.merge.ensures.conditions);
+      meets = rw c.of_merge.ensures (zero_merged (λ (w : List ℕ). MeetsBoth w s t) out' a sheet first c.merge.ensures.meets);
+      places = rw c.of_merge.ensures (zero_merged (λ (w : List ℕ). Placed w s t) out' a sheet first c.merge.ensures.places);
+    }

@@ -12,14 +12,9 @@ returns c =
     let s = args.sheet.now in
     let grouping = args.grouping.now in
     let grouping' = c.reassign.new.grouping in
-    let a = counting_answer c.reassign.result in
-    let promised = c.reassign.ensures.1.1 in (
-      c.of_counting.ensures ∙ ap numbers_of c.reassign.ensures.answer,
-      (
-        c.reassign.ensures.grouping,
-        rw c.of_counting.ensures (
-          zero_counted s grouping args.count args.lot args.value grouping' a c.reassign.ensures.answer promised.0,
-          right_accepted s grouping args.count args.lot args.value grouping' a promised.0 promised.1,
-        ),
-      ),
-    )
+    let a = counting_answer c.reassign.result in record {
+      answer = c.of_counting.ensures ∙ ap numbers_of c.reassign.ensures.answer;
+      grouping = c.reassign.ensures.grouping;
+      counted = rw c.of_counting.ensures (zero_counted s grouping args.count args.lot args.value grouping' a c.reassign.ensures.answer c.reassign.ensures.counted);
+      right = rw c.of_counting.ensures (right_accepted s grouping args.count args.lot args.value grouping' a c.reassign.ensures.counted c.reassign.ensures.right);
+    }

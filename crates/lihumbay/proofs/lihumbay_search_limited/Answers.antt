@@ -14,6 +14,4 @@ returns c =
     let s = begin.sheet.now in
     let limit = up_to begin.limit in
     let a = search_answer c.search_limited.result in
-    let first = refused-first limit s begin.grouping.now begin.store.now a c.search_limited.ensures.answer in
-    let promised = c.search_limited.ensures.1.1.1.1.1 in
-    let cases = promised.1.1.1 in record { answer = c.of_search.ensures ∙ ap numbers_of c.search_limited.ensures.answer; grouping = c.search_limited.ensures.grouping; store = c.search_limited.ensures.store; full = rw c.of_search.ensures (nine_under limit s begin.grouping.now begin.store.now a promised.0 promised.1.0); met = rw c.of_search.ensures (one_under limit s a first promised.1.1.0); meets = rw c.of_search.ensures (one_meets_under limit s c.search_limited.new.grouping a first cases.0); zero = rw c.of_search.ensures (one_zero_under limit s c.search_limited.new.grouping a first cases.1.0); cannot = rw c.of_search.ensures (two_under limit s a first cases.1.1.0); whichever = rw c.of_search.ensures (two_whichever_under limit s a first cases.1.1.1.0); refutes = rw c.of_search.ensures (two_refutes_under limit s c.search_limited.new.store a first cases.1.1.1.1) }
+    let first = refused-first limit s begin.grouping.now begin.store.now a c.search_limited.ensures.answer in record { answer = c.of_search.ensures ∙ ap numbers_of c.search_limited.ensures.answer; grouping = c.search_limited.ensures.grouping; store = c.search_limited.ensures.store; full = rw c.of_search.ensures (nine_under limit s begin.grouping.now begin.store.now a c.search_limited.ensures.full c.search_limited.ensures.capacity); met = rw c.of_search.ensures (one_under limit s a first c.search_limited.ensures.met); meets = rw c.of_search.ensures (one_meets_under limit s c.search_limited.new.grouping a first c.search_limited.ensures.meets); zero = rw c.of_search.ensures (one_zero_under limit s c.search_limited.new.grouping a first c.search_limited.ensures.zero); cannot = rw c.of_search.ensures (two_under limit s a first c.search_limited.ensures.cannot); whichever = rw c.of_search.ensures (two_whichever_under limit s a first c.search_limited.ensures.whichever); refutes = rw c.of_search.ensures (two_refutes_under limit s c.search_limited.new.store a first c.search_limited.ensures.refutes) }
