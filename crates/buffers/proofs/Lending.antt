@@ -16,7 +16,6 @@ use Prim.Native.Nat.{ℕ}
 use mathlib.Core.List.{List, [], ◌∷◌}
 use lib.ListN.{length}
 use seplogic.Ra.Ura.{Ura}
-
 use base.Fraction.{full_share, left, right}
 use mir.Syntax.{Lifetime}
 use mir.Val.{Val, vptr}

@@ -1,5 +1,7 @@
 // Two-byte numbers in lent bytes, and the fields that records of terms and of nodes begin with. The definitions and laws beside them are for all who write
 // bytes: these are written, the others are untouched.
+#![tactic(auto)]
+
 ghost use Rattle.std.specs.Prelude.{◌≡◌, ◌+◌, ◌≤◌, length};
 ghost use Rattle.std.proofs.lemmas.List.Edits.{sets};
 ghost use Rattle.buffers.specs.Bytes.{number, two_bytes, field_bytes};

@@ -1,5 +1,5 @@
 -- For the contracts of the code; this file states nothing of document 01.
-use Rattle.std.specs.Prelude.{ℕ, ◌+◌, ◌*◌, ◌≤◌, List, ◌++◌, ◌≡◌, length, take}
+use Rattle.std.specs.Prelude.{ℕ, ◌*◌, ◌≤◌, List, ◌++◌, ◌≡◌, length, take}
 use Rattle.sheet.specs.Format.{most_lots, header_length, lot_count}
 use Rattle.store.specs.Records.{record_length, capacity}
 use Rattle.lines.specs.Lines.{header_line, record_lines, met_line, cannot_line}

@@ -1,6 +1,6 @@
-use Rattle.std.proofs.Common.{rules, ◌≡◌, ◌+◌, ap, ◌∙◌, ℕ, List, arith}
+use Rattle.std.proofs.Common.{◌≡◌, ◌+◌, ap, ◌∙◌, ℕ, List}
 use native.Mathlib.Numerals.{add-one, add-two, add-four}
-use lib.ListN.{length, set, length-set}
+use lib.ListN.{set}
 use lib.Seq.{sets}
 use Rattle.buffers.specs.Bytes.{two_bytes, field_bytes}
 use Rattle.buffers.proofs.put_fields.Goals as goal

@@ -1,4 +1,4 @@
-use Rattle.std.proofs.Common.{rules, ◌≡◌, ◌/◌, ◌%◌, arith}
+use Rattle.std.proofs.Common.{◌≡◌, ◌/◌, ◌%◌, arith}
 use native.Mathlib.Numerals.{add-one}
 use Rattle.buffers.specs.Bytes.{two_bytes}
 use Rattle.buffers.proofs.put_number.Goals as goal

@@ -1,5 +1,5 @@
 -- `classes::join_entries`: the entries below i are those of the joined classes, and from i on as they were; what is left of the entries falls.
-use Prim.Native.Nat.{ℕ, ◌-◌, ◌≤◌, ◌<◌}
+use Prim.Native.Nat.{ℕ, ◌≤◌, ◌<◌}
 use mathlib.Core.List.{List}
 use mathlib.Core.Path.{◌≡◌, refl, ap, ◌∙◌}
 use native.Mathlib.Omega.{arith}
@@ -7,7 +7,6 @@ use lib.ListN.{length, get_or, set, length-set}
 use Rattle.equality.specs.Node.{merged, class_of}
 use Rattle.equality.proofs.Classes.{joined_to, merged_zero}
 use Rattle.classes.proofs.Rewriting.{rewritten, here, turn_sets, whole}
-use borrow.Author.Rules.{rules}
 use Rattle.classes.proofs.join_entries.Goals as goal
 
 -- After the loop all entries are those of the joined classes, and lot 0's stays 0.

@@ -1,12 +1,8 @@
-use Prim.Native.Nat.{ℕ, ◌-◌, ◌≤◌, ◌<◌}
-use mathlib.Core.List.{List}
-use mathlib.Core.Path.{◌≡◌, refl, ap, ◌∙◌}
-use native.Mathlib.Omega.{arith}
-use lib.ListN.{length, get_or, set, length-set}
-use Rattle.equality.specs.Node.{merged, class_of}
-use Rattle.equality.proofs.Classes.{joined_to, merged_zero}
-use Rattle.classes.proofs.Rewriting.{rewritten, here, turn_sets, whole}
-use borrow.Author.Rules.{rules}
+use Prim.Native.Nat.{◌-◌, ◌≤◌}
+use mathlib.Core.Path.{◌≡◌}
+use lib.ListN.{length}
+use Rattle.equality.proofs.Classes.{joined_to}
+use Rattle.classes.proofs.Rewriting.{rewritten}
 use Rattle.classes.proofs.join_entries.Given as goal
 
 abbrev pub invariant-loop-i : goal.invariant-loop-i

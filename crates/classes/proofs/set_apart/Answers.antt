@@ -1,7 +1,6 @@
 -- `classes::set_apart`: both bytes are within the slice, and a lot's number fits a byte.
 use native.Mathlib.Omega.{arith}
 use lib.ListN.{length-set}
-use borrow.Author.Rules.{rules}
 use Rattle.classes.proofs.set_apart.Goals as goal
 
 pub bounds-pairs-at-2 : goal.bounds-pairs-at-2

@@ -1,5 +1,5 @@
 -- `classes::write_grouping`: each byte below i is the smallest lot of its lot's class, and the grouping keeps its length; what is left of it falls.
-use Prim.Native.Nat.{ℕ, ◌+◌, ◌-◌, ◌≤◌, ◌<◌}
+use Prim.Native.Nat.{ℕ, ◌+◌}
 use mathlib.Core.Path.{◌≡◌, sym, ap, ◌∙◌}
 use native.Mathlib.Nat.{add_comm}
 use native.Mathlib.Omega.{arith}

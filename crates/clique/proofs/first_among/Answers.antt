@@ -1,16 +1,10 @@
 -- `clique::first_among`: the classes are listed, and the list is looked at.
-use Prim.Native.Nat.{ℕ, ◌-◌, ◌≤◌}
-use mathlib.Core.List.{List}
-use mathlib.Core.Path.{◌≡◌, sym, ap, subst, ◌∙◌}
+use Prim.Native.Nat.{◌-◌, ◌≤◌}
+use mathlib.Core.Path.{sym, subst}
 use native.Mathlib.Omega.{arith}
-use lib.ListN.{length-take}
 use Rattle.sheet.specs.Format.{most_lots}
-use Rattle.limit.specs.Rule.{clique_or_split}
-use Rattle.limit.specs.Scan.{classes_from}
 use Rattle.limit.proofs.Left.{from_all}
-use Rattle.marks.specs.Marks.{mark_at}
 use Rattle.clique.specs.Found.{Listed}
-use borrow.Author.Rules.{rules}
 use Rattle.clique.proofs.first_among.Goals as goal
 
 pub first_listed-requires : goal.first_listed-requires

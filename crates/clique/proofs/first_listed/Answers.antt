@@ -1,7 +1,7 @@
-use Prim.Native.Nat.{ℕ, suc, ◌-◌, ◌≤◌, ◌<◌}
+use Prim.Native.Nat.{ℕ, suc, ◌≤◌, ◌<◌}
 use mathlib.Core.Bool.{Bool, true, false, cond}
 use mathlib.Core.List.{List}
-use mathlib.Core.Path.{◌≡◌, refl, sym, ap, ◌∙◌}
+use mathlib.Core.Path.{◌≡◌, sym, ap, ◌∙◌}
 use native.Mathlib.Numerals.{add-one}
 use native.Mathlib.Omega.{arith}
 use borrow.Author.Tests.{lt-ltb, le-ltb}
@@ -11,7 +11,6 @@ use lib.Seq.{drop-cons}
 use Rattle.equality.specs.Node.{class_of, Node, split, clique}
 use Rattle.limit.specs.Rule.{split_with, clique_or_split}
 use Rattle.marks.specs.Marks.{mark_at}
-use borrow.Author.Rules.{rules}
 use Rattle.clique.proofs.first_listed.Goals as goal
 
 -- The pairs of the class at a place are looked at, and then those of the classes behind it.

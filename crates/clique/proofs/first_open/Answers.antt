@@ -1,19 +1,15 @@
 -- `clique::first_open`: the pairs of x, and where all of them are marked, those of the classes behind it.
 use Prim.Native.Nat.{ℕ, suc}
-use mathlib.Core.Bool.{Bool, true, false, cond}
+use mathlib.Core.Bool.{Bool, cond}
 use mathlib.Core.List.{List}
-use mathlib.Core.Logic.{⊎_elim}
 use mathlib.Core.Path.{◌≡◌, sym, ap, ap₂, ◌∙◌}
-use native.Mathlib.Numerals.{add-one}
-use native.Mathlib.Omega.{arith}
-use borrow.Author.Tests.{eq-eqb, ne_eqb, lt-ltb, le-ltb}
+use borrow.Author.Tests.{eq-eqb}
 use lib.Dec.{ltb}
 use Rattle.equality.specs.Node.{class_of, Node, split}
 use Rattle.limit.specs.Rule.{split_with, clique_or_split}
 use Rattle.limit.specs.Scan.{classes_from, pairs_at}
-use Rattle.limit.proofs.Scan.{pairs_class, pairs_other, pairs_end}
+use Rattle.limit.proofs.Scan.{pairs_class, pairs_end}
 use Rattle.marks.specs.Marks.{mark_at}
-use borrow.Author.Rules.{rules}
 use Rattle.clique.proofs.first_open.Goals as goal
 
 -- The pairs of a class, by the first class from `from` on that isn't marked with it, if there is one.

@@ -1,18 +1,16 @@
-use Prim.Native.Nat.{ℕ, suc, ◌+◌, ◌-◌, ◌≤◌, ◌<◌}
+use Prim.Native.Nat.{ℕ, suc, ◌+◌, ◌<◌}
 use mathlib.Core.Bool.{Bool, cond}
 use mathlib.Core.List.{List, ◌∷◌, [], ◌++◌, append_assoc, append-nil}
-use mathlib.Core.Logic.{⊎_elim, ◌≢◌}
-use mathlib.Core.Path.{◌≡◌, refl, sym, ap, ap₂, ◌∙◌}
+use mathlib.Core.Logic.{◌≢◌}
+use mathlib.Core.Path.{◌≡◌, sym, ap, ap₂, ◌∙◌}
 use native.Mathlib.Numerals.{add-one}
 use native.Mathlib.Omega.{arith}
 use borrow.Author.Tests.{eq-eqb, ne_eqb}
 use lib.ListN.{length, take, set, length-set}
 use lib.Seq.{take-suc-set}
-use Rattle.sheet.specs.Format.{most_lots}
 use Rattle.equality.specs.Node.{class_of}
 use Rattle.limit.specs.Scan.{classes_from}
 use Rattle.limit.proofs.Scan.{from_step, from_none}
-use borrow.Author.Rules.{rules}
 use Rattle.clique.proofs.list_classes.Goals as goal
 use Rattle.clique.proofs.list_classes.Goals.{then-class-lot, else-class-lot}
 
@@ -40,21 +38,24 @@ module _ (lots : List ℕ) (end lot : ℕ) (h : lot < end) (list : List ℕ) (co
 pub loop-lot-preserved : goal.loop-lot-preserved
 loop-lot-preserved c =
     let args = c.args in
-    elim c.if-class-lot.branch [ then-class-lot w ↦ (
-      omega (arith, w.count-is, c.loop-lot.invariant.1, c.requires.1),
-      omega (arith, w.count-is, c.loop-lot.invariant.1),
-      ap length w.list-is ∙ length-set c.loop-lot.list c.loop-lot.count _ ∙ c.loop-lot.invariant.2,
-      ap₂ (λ (k : ℕ) (l : List ℕ). take k l ++ classes_from args.lots.now args.end (c.loop-lot.lot + 1)) w.count-is w.list-is
-          ∙ one_listed args.lots.now args.end c.loop-lot.lot (omega arith) c.loop-lot.list c.loop-lot.count (omega (arith, c.loop-lot.invariant.1, c.loop-lot.invariant.2, c.requires.1)) w.if-class-lot.true
-          ∙ c.loop-lot.invariant.3,
-    ) | else-class-lot w ↦ (
-      omega (arith, w.count-is, c.loop-lot.invariant.0),
-      omega (arith, w.count-is, c.loop-lot.invariant.1),
-      ap length w.list-is ∙ c.loop-lot.invariant.2,
-      ap₂ (λ (k : ℕ) (l : List ℕ). take k l ++ classes_from args.lots.now args.end (c.loop-lot.lot + 1)) w.count-is w.list-is
-          ∙ none_listed args.lots.now args.end c.loop-lot.lot (omega arith) c.loop-lot.list c.loop-lot.count w.if-class-lot.false
-          ∙ c.loop-lot.invariant.3,
-    ) ]
+    elim c.if-class-lot.branch [
+      | then-class-lot w ↦ (
+        omega (arith, w.count-is, c.loop-lot.invariant.1, c.requires.1),
+        omega (arith, w.count-is, c.loop-lot.invariant.1),
+        ap length w.list-is ∙ length-set c.loop-lot.list c.loop-lot.count _ ∙ c.loop-lot.invariant.2,
+        ap₂ (λ (k : ℕ) (l : List ℕ). take k l ++ classes_from args.lots.now args.end (c.loop-lot.lot + 1)) w.count-is w.list-is
+            ∙ one_listed args.lots.now args.end c.loop-lot.lot (omega arith) c.loop-lot.list c.loop-lot.count (omega (arith, c.loop-lot.invariant.1, c.loop-lot.invariant.2, c.requires.1)) w.if-class-lot.true
+            ∙ c.loop-lot.invariant.3,
+      )
+      | else-class-lot w ↦ (
+        omega (arith, w.count-is, c.loop-lot.invariant.0),
+        omega (arith, w.count-is, c.loop-lot.invariant.1),
+        ap length w.list-is ∙ c.loop-lot.invariant.2,
+        ap₂ (λ (k : ℕ) (l : List ℕ). take k l ++ classes_from args.lots.now args.end (c.loop-lot.lot + 1)) w.count-is w.list-is
+            ∙ none_listed args.lots.now args.end c.loop-lot.lot (omega arith) c.loop-lot.list c.loop-lot.count w.if-class-lot.false
+            ∙ c.loop-lot.invariant.3,
+      )
+    ]
 
 pub returns : goal.returns
 returns c =

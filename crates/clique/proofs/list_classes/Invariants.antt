@@ -1,19 +1,10 @@
 -- `clique::list_classes`: the classes in the list and those from `lot` on are all of them; the lots that are left fall.
-use Prim.Native.Nat.{ℕ, suc, ◌+◌, ◌-◌, ◌≤◌, ◌<◌}
-use mathlib.Core.Bool.{Bool, cond}
-use mathlib.Core.List.{List, ◌∷◌, [], ◌++◌, append_assoc, append-nil}
-use mathlib.Core.Logic.{⊎_elim, ◌≢◌}
-use mathlib.Core.Path.{◌≡◌, refl, sym, ap, ap₂, ◌∙◌}
-use native.Mathlib.Numerals.{add-one}
-use native.Mathlib.Omega.{arith}
-use borrow.Author.Tests.{eq-eqb, ne_eqb}
-use lib.ListN.{length, take, set, length-set}
-use lib.Seq.{take-suc-set}
+use Prim.Native.Nat.{suc, ◌+◌, ◌-◌, ◌≤◌}
+use mathlib.Core.List.{◌++◌}
+use mathlib.Core.Path.{◌≡◌}
+use lib.ListN.{length, take}
 use Rattle.sheet.specs.Format.{most_lots}
-use Rattle.equality.specs.Node.{class_of}
 use Rattle.limit.specs.Scan.{classes_from}
-use Rattle.limit.proofs.Scan.{from_step, from_none}
-use borrow.Author.Rules.{rules}
 use Rattle.clique.proofs.list_classes.Given as goal
 
 abbrev pub invariant-loop-lot : goal.invariant-loop-lot

@@ -1,18 +1,15 @@
-use Prim.Native.Nat.{ℕ, suc, ◌-◌, ◌≤◌, ◌<◌}
+use Prim.Native.Nat.{ℕ, suc, ◌≤◌, ◌<◌}
 use mathlib.Core.Bool.{Bool, cond}
 use mathlib.Core.List.{List}
-use mathlib.Core.Path.{◌≡◌, refl, sym, ap, ◌∙◌}
+use mathlib.Core.Path.{◌≡◌, sym, ap, ◌∙◌}
 use native.Mathlib.Numerals.{add-one}
 use native.Mathlib.Omega.{arith}
 use borrow.Author.Tests.{lt-ltb, le-ltb, not-true, not-false}
 use lib.ListN.{length, drop, drop_of_length-le}
 use lib.Seq.{drop-cons}
-use Rattle.buffers.proofs.Lists.{all_nth}
-use Rattle.sheet.specs.Format.{most_lots}
 use Rattle.equality.specs.Node.{class_of, Node, split}
 use Rattle.limit.specs.Rule.{split_with}
 use Rattle.marks.specs.Marks.{mark_at}
-use borrow.Author.Rules.{rules}
 use Rattle.clique.proofs.unmarked_behind.Goals as goal
 
 -- The class at a place is looked at, and then those behind it.

@@ -1,19 +1,10 @@
 -- `clique::unmarked_behind`: the classes from place `high` on come to what all behind `low` do; the places that are left fall.
-use Prim.Native.Nat.{ℕ, suc, ◌-◌, ◌≤◌, ◌<◌}
-use mathlib.Core.Bool.{Bool, cond}
-use mathlib.Core.List.{List}
-use mathlib.Core.Path.{◌≡◌, refl, sym, ap, ◌∙◌}
-use native.Mathlib.Numerals.{add-one}
-use native.Mathlib.Omega.{arith}
-use borrow.Author.Tests.{lt-ltb, le-ltb, not-true, not-false}
-use lib.ListN.{length, drop, drop_of_length-le}
-use lib.Seq.{drop-cons}
-use Rattle.buffers.proofs.Lists.{all_nth}
-use Rattle.sheet.specs.Format.{most_lots}
-use Rattle.equality.specs.Node.{class_of, Node, split}
+use Prim.Native.Nat.{suc, ◌-◌}
+use mathlib.Core.Path.{◌≡◌}
+use lib.ListN.{length, drop}
+use Rattle.equality.specs.Node.{class_of, Node}
 use Rattle.limit.specs.Rule.{split_with}
 use Rattle.marks.specs.Marks.{mark_at}
-use borrow.Author.Rules.{rules}
 use Rattle.clique.proofs.unmarked_behind.Given as goal
 
 abbrev pub invariant-loop-high : goal.invariant-loop-high

@@ -1,17 +1,10 @@
 -- `clique::unmarked_with`: the classes from lot y on come to what all of them do; the lots that are left fall.
-use Prim.Native.Nat.{ℕ, suc, ◌-◌}
-use mathlib.Core.Bool.{Bool, cond}
-use mathlib.Core.Logic.{⊎_elim}
-use mathlib.Core.Path.{◌≡◌, refl, sym, ap, ◌∙◌}
-use native.Mathlib.Numerals.{add-one}
-use native.Mathlib.Omega.{arith}
-use borrow.Author.Tests.{eq-eqb, ne_eqb, lt-ltb, le-ltb, not-true, not-false}
-use Rattle.equality.specs.Node.{Node, split}
+use Prim.Native.Nat.{◌-◌}
+use mathlib.Core.Path.{◌≡◌}
+use Rattle.equality.specs.Node.{Node}
 use Rattle.limit.specs.Rule.{split_with}
 use Rattle.limit.specs.Scan.{classes_from}
-use Rattle.limit.proofs.Scan.{with_class, with_other, with_end}
 use Rattle.marks.specs.Marks.{mark_at}
-use borrow.Author.Rules.{rules}
 use Rattle.clique.proofs.unmarked_with.Given as goal
 
 abbrev pub invariant-loop-y : goal.invariant-loop-y

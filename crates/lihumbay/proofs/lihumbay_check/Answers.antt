@@ -3,7 +3,6 @@ use mathlib.Core.Path.{ap, ◌∙◌}
 use Rattle.limit.specs.Meaning.{unlimited}
 use Rattle.numbers.specs.Answers.{numbers_of}
 use Rattle.lihumbay.proofs.Promised.{zero_passed, zero_means}
-use borrow.Author.Rules.{rules}
 use Rattle.lihumbay.proofs.lihumbay_check.Goals as goal
 
 pub returns : goal.returns

@@ -3,7 +3,6 @@ use mathlib.Core.Path.{ap, ◌∙◌}
 use Rattle.evaluator.specs.Answers.{evaluation_answer}
 use Rattle.numbers.specs.Answers.{numbers_of}
 use Rattle.lihumbay.proofs.Promised.{first_unmet}
-use borrow.Author.Rules.{rules}
 use Rattle.lihumbay.proofs.lihumbay_evaluate.Goals as goal
 
 pub returns : goal.returns

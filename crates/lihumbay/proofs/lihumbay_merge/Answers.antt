@@ -11,7 +11,6 @@ use Rattle.merge.specs.Answers.{merged_answer, sheet_refused}
 use Rattle.merge.specs.Promises.{MeetsBoth, Placed}
 use Rattle.numbers.specs.Answers.{merge_numbers}
 use Rattle.lihumbay.proofs.Promised.{zero_merged, merge_first}
-use borrow.Author.Rules.{rules}
 use Rattle.lihumbay.proofs.lihumbay_merge.Goals as goal
 
 pub returns : goal.returns

@@ -2,7 +2,6 @@
 use mathlib.Core.Path.{ap, ◌∙◌}
 use Rattle.numbers.specs.Answers.{numbers_of}
 use Rattle.lihumbay.proofs.Promised.{zero_exactly}
-use borrow.Author.Rules.{rules}
 use Rattle.lihumbay.proofs.lihumbay_read.Goals as goal
 
 pub returns : goal.returns

@@ -3,7 +3,6 @@ use mathlib.Core.Path.{ap, ◌∙◌}
 use Rattle.counter.specs.Answers.{counting_answer}
 use Rattle.numbers.specs.Answers.{numbers_of}
 use Rattle.lihumbay.proofs.Promised.{zero_counted, right_accepted}
-use borrow.Author.Rules.{rules}
 use Rattle.lihumbay.proofs.lihumbay_reassign.Goals as goal
 
 pub returns : goal.returns

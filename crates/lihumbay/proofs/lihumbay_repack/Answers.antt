@@ -7,7 +7,6 @@ use Rattle.repack.specs.Repack.{repacked}
 use Rattle.repack.specs.Promises.{Alike, ServedAlike}
 use Rattle.numbers.specs.Answers.{numbers_of}
 use Rattle.lihumbay.proofs.Promised.{zero_written, repack_first}
-use borrow.Author.Rules.{rules}
 use Rattle.lihumbay.proofs.lihumbay_repack.Goals as goal
 
 pub returns : goal.returns

@@ -7,7 +7,6 @@ use Rattle.search.specs.Answers.{search_answer}
 use Rattle.search.proofs.Promised.{refused-first}
 use Rattle.numbers.specs.Answers.{numbers_of}
 use Rattle.lihumbay.proofs.Promised.{nine, one, one-meets, one_zero, two, two_whichever, two_refutes, bounded}
-use borrow.Author.Rules.{rules}
 use Rattle.lihumbay.proofs.lihumbay_search.Goals as goal
 
 pub returns : goal.returns

@@ -5,7 +5,6 @@ use Rattle.search.specs.Answers.{search_answer}
 use Rattle.search.proofs.Promised.{refused-first}
 use Rattle.numbers.specs.Answers.{numbers_of}
 use Rattle.lihumbay.proofs.Promised.{nine_under, one_under, one_meets_under, one_zero_under, two_under, two_whichever_under, two_refutes_under}
-use borrow.Author.Rules.{rules}
 use Rattle.lihumbay.proofs.lihumbay_search_limited.Goals as goal
 
 pub returns : goal.returns

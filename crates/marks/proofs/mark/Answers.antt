@@ -1,7 +1,6 @@
 -- `marks::mark`: by the order of the two classes.
 use native.Mathlib.Omega.{arith}
-use Rattle.marks.proofs.Bytes.{marked-first, marked-second, marked_itself}
-use borrow.Author.Rules.{rules}
+use Rattle.marks.proofs.Bytes.{marked-first, marked-second}
 use Rattle.marks.proofs.mark.Goals as goal
 
 pub returns-then-x-y : goal.returns-then-x-y

@@ -1,13 +1,7 @@
-use Prim.Native.Nat.{◌+◌, ◌*◌, ◌-◌, ◌≤◌}
-use mathlib.Core.Path.{◌≡◌}
 use native.Mathlib.Omega.{arith}
-use lib.ListN.{get_or}
-use Rattle.sheet.specs.Format.{most_lots}
 use Rattle.classes.specs.Pairs.{set_apart}
-use Rattle.marks.specs.Marks.{Marks, Outside}
 use Rattle.marks.proofs.Bytes.{outside-none, outside_then}
-use Rattle.marks.proofs.Marks.{marks_none, marks_pair, outside-within}
-use borrow.Author.Rules.{rules}
+use Rattle.marks.proofs.Marks.{marks_none, marks_pair}
 use Rattle.marks.proofs.mark_pairs.Goals as goal
 
 pub loop-i-init : goal.loop-i-init

@@ -1,15 +1,8 @@
 -- `marks::mark_pairs`: the classes of the first i pairs are marked, by the pairs as they were at the start, and nothing around the table is changed; what is left
 -- of the pairs falls.
-use Prim.Native.Nat.{◌+◌, ◌*◌, ◌-◌, ◌≤◌}
-use mathlib.Core.Path.{◌≡◌}
-use native.Mathlib.Omega.{arith}
-use lib.ListN.{get_or}
-use Rattle.sheet.specs.Format.{most_lots}
+use Prim.Native.Nat.{◌-◌, ◌≤◌}
 use Rattle.classes.specs.Pairs.{set_apart}
 use Rattle.marks.specs.Marks.{Marks, Outside}
-use Rattle.marks.proofs.Bytes.{outside-none, outside_then}
-use Rattle.marks.proofs.Marks.{marks_none, marks_pair, outside-within}
-use borrow.Author.Rules.{rules}
 use Rattle.marks.proofs.mark_pairs.Given as goal
 
 abbrev pub invariant-loop-i : goal.invariant-loop-i

@@ -1,8 +1,6 @@
 -- `marks::stamp_pairs`: the pairs stand in front of the table, so they are the same once it is cleared.
-use native.Mathlib.Omega.{arith}
 use Rattle.marks.proofs.Bytes.{outside_then}
-use Rattle.marks.proofs.Marks.{outside-pairs, outside-within}
-use borrow.Author.Rules.{rules}
+use Rattle.marks.proofs.Marks.{outside-pairs}
 use Rattle.marks.proofs.stamp_pairs.Goals as goal
 
 pub returns : goal.returns

@@ -1,6 +1,5 @@
 -- `node::by_table`: the table is marked by the pairs in front of it, which stay as they are.
 use Rattle.marks.proofs.Marks.{marks_represent}
-use borrow.Author.Rules.{rules}
 use Rattle.node.proofs.by_table.Goals as goal
 
 pub returns : goal.returns

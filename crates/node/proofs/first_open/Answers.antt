@@ -1,10 +1,9 @@
 use Prim.Native.Nat.{ℕ, ◌≤◌, ◌<◌}
 use mathlib.Core.Bool.{Bool, not, false}
 use mathlib.Core.List.{List, ◌∷◌}
-use mathlib.Core.Logic.{⊎_elim}
 use mathlib.Core.Path.{◌≡◌, sym, ap, subst, ◌∙◌}
 use native.Mathlib.Omega.{arith}
-use borrow.Author.Tests.{ltb-true, not-true}
+use borrow.Author.Tests.{not-true}
 use lib.ListN.{length}
 use Rattle.sheet.specs.declared.Term.{Term}
 use Rattle.sheet.specs.Format.{next_at}
@@ -15,13 +14,11 @@ use Rattle.sheet.proofs.ChainEnds.{on_sound, rest_shorter}
 use Rattle.equality.specs.Node.{Decisions}
 use Rattle.classes.specs.Pairs.{Represents}
 use Rattle.classes.proofs.Path.{marked-says}
-use Rattle.marks.specs.Marks.{walk_limit}
 use Rattle.marks.proofs.Bytes.{outside-none}
-use Rattle.equality.proofs.Passing.{Passing, passing_start, passing_next}
+use Rattle.equality.proofs.Passing.{Passing, passing_next}
 use Rattle.scan.specs.Place.{PassesTo, ResumesWithin}
 use Rattle.node.proofs.Opening.{marks_of, open_by, sign_same, sign_apart, passed-resumes, none_open, open_here, open_leaves}
 use Rattle.node.proofs.Resuming.{rest_decides, rest_passes, later_resumes, apart-resumes}
-use borrow.Author.Rules.{rules}
 use Rattle.node.proofs.first_open.Goals as goal
 use Rattle.node.proofs.first_open.Goals.{then-t-eq-SAME+else-not-mark, else-t-eq-SAME}
 

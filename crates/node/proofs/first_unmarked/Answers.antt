@@ -1,7 +1,6 @@
 use Prim.Native.Nat.{ℕ, ◌+◌, ◌≤◌, ◌<◌}
 use mathlib.Core.Bool.{Bool, not, false}
 use mathlib.Core.List.{List, ◌∷◌}
-use mathlib.Core.Logic.{⊎_elim}
 use mathlib.Core.Path.{◌≡◌, sym, ap, subst, ◌∙◌}
 use native.Mathlib.Omega.{arith}
 use borrow.Author.Tests.{not-true}
@@ -12,11 +11,10 @@ use Rattle.sheet.specs.Checks.{Accepted}
 use Rattle.sheet.specs.Conditions.{same, apart, term_of, term_at, records_from}
 use Rattle.sheet.proofs.Accepted.{sound, has_record}
 use Rattle.sheet.proofs.ChainEnds.{on_sound, rest_shorter}
-use Rattle.equality.proofs.Passing.{Passing, passing_start, passing_through, passing_next}
+use Rattle.equality.proofs.Passing.{Passing, passing_through, passing_next}
 use Rattle.scan.specs.Place.{PassesTo}
 use Rattle.node.proofs.Opening.{table_of, table-says, open_by, sign_same, sign_apart, none_open, open_here, open_leaves}
 use Rattle.node.proofs.Resuming.{rest_decides, rest_passes, apart-resumes}
-use borrow.Author.Rules.{rules}
 use Rattle.node.proofs.first_unmarked.Goals as goal
 use Rattle.node.proofs.first_unmarked.Goals.{then-t-eq-SAME+else-not-is_marked, else-t-eq-SAME}
 

@@ -1,10 +1,7 @@
 -- `node::node_at`: the terms from the place on decide what the node is; nowhere, and after a pair of classes, it is met.
-use mathlib.Core.Path.{subst}
 use Rattle.marks.proofs.Bytes.{outside-none}
-use Rattle.scan.specs.Place.{PlaceWithin}
 use Rattle.node.proofs.Leaving.{stands, pair_none}
 use Rattle.node.proofs.Resuming.{none-met}
-use borrow.Author.Rules.{rules}
 use Rattle.node.proofs.node_at.Goals as goal
 
 -- nowhere;

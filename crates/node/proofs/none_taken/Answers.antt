@@ -1,20 +1,18 @@
 -- `node::none_taken`: without a limit the node is met; else what the limit makes of it, by the place where its pairs of classes are looked at.
 use Prim.Native.Nat.{ℕ}
 use mathlib.Core.List.{List}
-use mathlib.Core.Path.{◌≡◌, subst}
+use mathlib.Core.Path.{◌≡◌}
 use native.Mathlib.Numerals.{add-one}
-use native.Mathlib.Omega.{arith}
-use Rattle.sheet.specs.Conditions.{Term, conditions}
-use Rattle.equality.specs.Node.{Decisions, Taken, no_condition, takes, taken}
+use Rattle.sheet.specs.Conditions.{conditions}
+use Rattle.equality.specs.Node.{Decisions, no_condition, taken}
 use Rattle.limit.specs.Rule.{none_taken}
 use Rattle.limit.specs.Scan.{limit_of}
 use Rattle.limit.proofs.Resumes.{scan_start}
 use Rattle.classes.specs.Pairs.{Represents}
 use Rattle.marks.proofs.Bytes.{outside-none}
-use Rattle.scan.specs.Place.{Stands, Rises}
+use Rattle.scan.specs.Place.{Stands}
 use Rattle.node.specs.Found.{untaken_as, PairLeaves}
 use Rattle.node.proofs.Leaving.{stands, limited-node, no_limit_met, resumes-limited}
-use borrow.Author.Rules.{rules}
 use Rattle.node.proofs.none_taken.Goals as goal
 
 -- Without a limit;

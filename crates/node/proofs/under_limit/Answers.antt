@@ -10,7 +10,6 @@ use Rattle.clique.specs.Found.{found_as}
 use Rattle.marks.proofs.Bytes.{outside-none}
 use Rattle.marks.proofs.Marks.{marks_at, marks_represent}
 use Rattle.node.proofs.Pairing.{few-met, scan_node}
-use borrow.Author.Rules.{rules}
 use Rattle.node.proofs.under_limit.Goals as goal
 
 pub returns-then-first-limit : goal.returns-then-first-limit

@@ -9,7 +9,6 @@ use Rattle.sheet.specs.Checks.{or_else, first_refusal, header_checks, check4, ch
 use Rattle.sheet.specs.Inner.{HasHeader}
 use Rattle.sheet.proofs.Verdicts.{passed_on, refused_here}
 use Rattle.sheet.proofs.Accepted.{in_order, header-whole, header-passed}
-use borrow.Author.Rules.{rules}
 use Rattle.reader.proofs.first_refusal.Goals as goal
 
 -- The verdict of the checks from 4, from 5 and from 6 on.

@@ -4,7 +4,6 @@ use mathlib.Core.List.{List}
 use mathlib.Core.Path.{sym, ◌∙◌}
 use Rattle.sheet.specs.Answers.{read_answer_with}
 use Rattle.sheet.proofs.Accepted.{header-whole, sound}
-use borrow.Author.Rules.{rules}
 use Rattle.reader.proofs.read.Goals as goal
 
 pub header_of-h-requires : goal.header_of-h-requires

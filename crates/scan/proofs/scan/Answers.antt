@@ -1,6 +1,6 @@
 use mathlib.Core.Path.{◌≡◌, refl, sym, ap, subst, ◌∙◌}
 use mathlib.Core.List.{List}
-use Prim.Native.Nat.{ℕ, suc, ◌+◌, ◌-◌, ◌≤◌, ◌<◌}
+use Prim.Native.Nat.{ℕ, suc, ◌+◌, ◌≤◌, ◌<◌}
 use native.Mathlib.Numerals.{add-one}
 use native.Mathlib.Omega.{arith}
 use borrow.Author.Tests.{eq-eqb, ne_eqb}
@@ -20,13 +20,12 @@ use Rattle.equality.proofs.Some.{some_found}
 use Rattle.equality.proofs.Withdrawn.{chain_some}
 use Rattle.equality.proofs.Passing.{Passing, passing_start, found, passing_next, ended}
 use Rattle.equality.proofs.Node.{lowest_taken}
-use Rattle.sheet.proofs.Scanning.{Scanning, scanning_start, found_here, scanning_next, none_found}
+use Rattle.sheet.proofs.Scanning.{Scanning, found_here, scanning_next, none_found}
 use Rattle.scan.proofs.Scanning.{taken_goes, taken_by_map, term_flag}
-use Rattle.scan.specs.Settled.{settled_by, Settled, Later}
+use Rattle.scan.specs.Settled.{settled_by}
 use Rattle.scan.specs.Place.{ResumesWithin}
-use Rattle.scan.proofs.Settling.{settled-met, found_sharing, sharing_flag, later_none, settled-next}
+use Rattle.scan.proofs.Settling.{settled-met, found_sharing, sharing_flag, settled-next}
 use Rattle.scan.proofs.Resuming.{head-resumes}
-use borrow.Author.Rules.{rules}
 use Rattle.scan.proofs.scan.Goals as goal
 
 -- A condition that has a level is settled, so it is met.

@@ -8,7 +8,6 @@ use Rattle.limit.proofs.Range.{none_admitted}
 use Rattle.outcome.proofs.Checked.{under_refused, under_short, under_all}
 use Rattle.search.specs.declared.SearchAnswer.TheVariants.{Refused}
 use Rattle.search.proofs.Entry.{refused-ends, ensured}
-use borrow.Author.Rules.{rules}
 use Rattle.search.proofs.search.Goals as goal
 
 pub returns-then-grouping-lots : goal.returns-then-grouping-lots

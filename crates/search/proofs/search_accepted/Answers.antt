@@ -1,12 +1,11 @@
 -- `search::search_accepted`: the visits have the first n bytes of the grouping and the whole records of the store; how they end is the search's result.
 use Prim.Native.Nat.{◌≤◌}
-use mathlib.Core.Path.{sym, ◌∙◌}
+use mathlib.Core.Path.{◌∙◌}
 use native.Mathlib.Omega.{arith}
 use lib.Seq.{length-take-le}
 use Rattle.sheet.specs.Format.{most_lots}
 use Rattle.sheet.proofs.Accepted.{sound}
 use Rattle.search.proofs.Ending.{whole-records, ends-met, ends_cannot, ends_full}
-use borrow.Author.Rules.{rules}
 use Rattle.search.proofs.search_accepted.Goals as goal
 
 -- Met,

@@ -10,7 +10,6 @@ use Rattle.limit.proofs.Range.{limit-within, limit_admitted}
 use Rattle.outcome.proofs.Checked.{under_refused, under_short, under_all, limit-refused}
 use Rattle.search.specs.declared.SearchAnswer.TheVariants.{Refused}
 use Rattle.search.proofs.Entry.{refused-ends, ensured_under}
-use borrow.Author.Rules.{rules}
 use Rattle.search.proofs.search_limited.Goals as goal
 
 -- The limit is refused,

@@ -2,7 +2,6 @@
 use mathlib.Core.Path.{refl}
 use Rattle.limit.proofs.Range.{limit_of_lem}
 use Rattle.visit.specs.Limits.{pairs_room}
-use borrow.Author.Rules.{rules}
 use Rattle.search.proofs.with_limit.Goals as goal
 
 pub search_accepted-requires : goal.search_accepted-requires

@@ -1,7 +1,6 @@
 -- `search::without_limit`: the bytes for the pairs of a path without a limit.
 use mathlib.Core.Path.{refl}
 use Rattle.visit.specs.Limits.{pairs_room}
-use borrow.Author.Rules.{rules}
 use Rattle.search.proofs.without_limit.Goals as goal
 
 pub search_accepted-requires : goal.search_accepted-requires

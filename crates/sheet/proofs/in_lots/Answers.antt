@@ -2,7 +2,6 @@
 use native.Mathlib.Omega.{arith}
 use borrow.Author.Tests.{le-leb}
 use Rattle.sheet.specs.Format.{lowest_lot}
-use borrow.Author.Rules.{rules}
 use Rattle.sheet.proofs.in_lots.Goals as goal
 
 pub returns : goal.returns

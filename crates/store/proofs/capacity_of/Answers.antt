@@ -1,6 +1,5 @@
 -- `store::capacity_of` meets its contract: the test picks the smaller of the two.
 use native.Mathlib.Omega.{arith}
-use borrow.Author.Rules.{rules}
 use Rattle.store.proofs.capacity_of.Goals as goal
 
 pub returns-then-whole-lt-MOST_NODES : goal.returns-then-whole-lt-MOST_NODES

@@ -1,13 +1,11 @@
 -- `store::clear` meets its contract. The loop's invariant: the first i bytes are 0, the others as they were, and i is at most the end.
 -- The measure is what is left up to the end.
-use Prim.Native.Nat.{◌*◌, ◌-◌, ◌≤◌}
-use mathlib.Core.List.{◌++◌}
+use Prim.Native.Nat.{◌*◌}
 use mathlib.Core.Path.{◌≡◌}
 use native.Mathlib.Omega.{arith}
 use borrow.Author.Fill.{fill_more}
-use lib.ListN.{length, drop, replicate, length-set}
+use lib.ListN.{length-set}
 use Rattle.store.specs.Records.{record_length}
-use borrow.Author.Rules.{rules}
 use Rattle.store.proofs.clear.Goals as goal
 
 pub loop-i-preserved : goal.loop-i-preserved

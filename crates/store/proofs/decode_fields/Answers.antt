@@ -4,7 +4,6 @@ use mathlib.Core.Logic.{⊎_elim}
 use mathlib.Core.Path.{◌≡◌, refl}
 use borrow.Author.Tests.{eq-eqb, ne_eqb}
 use Rattle.store.specs.Records.{no_record, of_kind}
-use borrow.Author.Rules.{rules}
 use Rattle.store.proofs.decode_fields.Goals as goal
 
 -- A kind that is none of the four.

@@ -5,7 +5,6 @@ use mathlib.Core.Path.{ap, ◌∙◌}
 use lib.Seq.{sets}
 use Rattle.store.specs.Records.{next_place, next_bytes, fields}
 use Rattle.store.proofs.Writes.{fields-stored}
-use borrow.Author.Rules.{rules}
 use Rattle.store.proofs.put_fields.Goals as goal
 
 pub returns : goal.returns

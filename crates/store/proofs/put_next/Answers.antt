@@ -1,5 +1,4 @@
 -- `store::put_next` meets its contract: the next is a number of two bytes.
-use borrow.Author.Rules.{rules}
 use Rattle.store.proofs.put_next.Goals as goal
 
 pub returns : goal.returns

@@ -1,6 +1,5 @@
 -- `store::read` meets its contract: the fields stand where the definition has them.
 use Rattle.store.specs.Records.{decode}
-use borrow.Author.Rules.{rules}
 use Rattle.store.proofs.read.Goals as goal
 
 pub returns : goal.returns

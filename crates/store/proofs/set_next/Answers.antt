@@ -3,7 +3,6 @@ use Prim.Native.Nat.{ℕ, ◌+◌}
 use mathlib.Core.Path.{ap, ◌∙◌}
 use lib.Seq.{sets}
 use Rattle.store.specs.Records.{next_place, next_bytes}
-use borrow.Author.Rules.{rules}
 use Rattle.store.proofs.set_next.Goals as goal
 
 pub returns : goal.returns

@@ -1,6 +1,5 @@
 -- `store::write` meets its contract: each arm writes the fields that the definition gives that record.
 use Rattle.store.specs.Records.{encode}
-use borrow.Author.Rules.{rules}
 use Rattle.store.proofs.write.Goals as goal
 
 pub put_fields-requires : goal.put_fields-requires

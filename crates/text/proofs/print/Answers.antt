@@ -1,13 +1,10 @@
 -- `text::print` meets its contract: it takes as much of the input as the program reads, and its own buffers are of the program's sizes.
-use Prim.Native.Nat.{◌≤◌}
-use mathlib.Core.Logic.{⊎_elim}
 use mathlib.Core.Path.{◌≡◌, ap, sym, ◌∙◌}
 use native.Mathlib.Omega.{arith}
-use lib.ListN.{length, take}
-use lib.Seq.{take_all, length-take-le}
+use lib.ListN.{take}
+use lib.Seq.{take_all}
 use Rattle.text.specs.Program.{most_input, printed}
 use Rattle.text.proofs.Says.{printed-taken}
-use borrow.Author.Rules.{rules}
 use Rattle.text.proofs.print.Goals as goal
 use Rattle.text.proofs.print.Goals.{then-input-lt-MOST_INPUT, else-input-lt-MOST_INPUT}
 

@@ -3,13 +3,11 @@ use Prim.Native.Nat.{ℕ}
 use mathlib.Core.List.{List}
 use mathlib.Core.Path.{◌≡◌, ap, sym, subst, ◌∙◌}
 use native.Mathlib.Omega.{arith}
-use Rattle.outcome.specs.Outcome.{search_outcome}
 use Rattle.sheet.specs.Answers.{Answer}
 use Rattle.search.specs.Answers.{search_answer}
 use Rattle.search.specs.declared.SearchAnswer.{SearchAnswer}
 use Rattle.buffers.specs.Written.{WroteFirst}
 use Rattle.text.proofs.Searched.{refused-printed, printable, lots-grouped, met-printed, met-room, cannot_printed, cannot_room}
-use borrow.Author.Rules.{rules}
 use Rattle.text.proofs.print_search.Goals as goal
 
 -- The answer in document 01's numbers.

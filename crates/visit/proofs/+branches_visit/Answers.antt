@@ -1,12 +1,9 @@
-use borrow.Author.Rules.{rules}
 use Prim.Native.Nat.{ℕ, ◌+◌, ◌*◌, ◌-◌, ◌≤◌, ◌<◌}
 use mathlib.Core.List.{List, ◌∷◌}
-use mathlib.Core.Logic.{◌⊎◌, ⊎_elim}
-use mathlib.Core.Path.{◌≡◌, refl, sym, ap, subst, ◌∙◌}
+use mathlib.Core.Path.{◌≡◌, sym, ap, subst, ◌∙◌}
 use native.Mathlib.Omega.{arith}
 use mathlib.Core.Bool.{cond}
 use lib.Dec.{eqb}
-use denote.Enum.Declared.{tag_of}
 use lib.ListN.{length, set, take, drop}
 use lib.Seq.{sets}
 use Rattle.sheet.specs.Checks.{Accepted}
@@ -25,7 +22,6 @@ use Rattle.store.specs.Records.{record_length, split_record, ground_record, met_
 use Rattle.classes.specs.Pairs.{Untouched}
 use Rattle.marks.proofs.Marks.{outside-front}
 use Rattle.node.specs.declared.Node as declared
-use Rattle.node.specs.declared.Node.TheVariants as terms
 use Rattle.node.specs.declared.Untaken as untaken
 use Rattle.node.specs.declared.Split.{Split}
 use Rattle.scan.specs.declared.Place.{Place}
@@ -34,16 +30,13 @@ use Rattle.scan.specs.Place.{Resumes, Stands}
 use Rattle.node.specs.Found.{node_as, untaken_as, TermLeaves, SplitLeaves, PairLeaves}
 use Rattle.scan.specs.Settled.{Later}
 use Rattle.node.proofs.Leaving.{ground_under, split_under, term_leaves}
-use Rattle.scan.proofs.Settling.{later_none, later_through, later_above, restored_settled, restored_later}
+use Rattle.scan.proofs.Settling.{later_through, later_above, restored_settled, restored_later}
 use Rattle.outcome.proofs.Fitting.{node-count}
 use Rattle.visit.specs.declared.Visited.{Visited}
-use Rattle.visit.specs.declared.Visited.TheVariants.{Cannot}
 use Rattle.visit.specs.Visited.{Searchable, rule_of, Standing, Visitable, Splittable, Explored, VisitExplores}
-use Rattle.visit.specs.contracts.Visited as ends
 use Rattle.visit.proofs.Exploring.{none_explored, met_explored, ground_explored, clique_explored}
 use Rattle.visit.proofs.Splitting.{split-ended, split_over, split-apart}
-use Rattle.visit.proofs.Room.{has-place, number_fits}
-use Rattle.visit.proofs.Standing.{open_by_map, noted_by, place-within, within-rises, split-number, under_settled, under_later, same-level, apart-level, level-room, count_room, markable, entries-within, split-small, same-standing, same_less, pair_room, apart-standing, apart_less, below_standing, below_same, untouched_through}
+use Rattle.visit.proofs.Standing.{open_by_map, noted_by, within-rises, split-number, under_settled, under_later, same-level, apart-level, level-room, markable, entries-within, split-small, same-standing, same_less, pair_room, apart-standing, apart_less, below_standing, below_same, untouched_through}
 use Rattle.classes.specs.declared.Classes.{Classes}
 use Rattle.equality.specs.Node.{merged, class_of}
 use Rattle.visit.proofs.+branches_visit.Goals as goal
@@ -105,7 +98,7 @@ branches-visit-under_same-requires t c =
     let ok : Accepted s = c.requires.0.sheet.accepted in
     let able : Splittable c.args.at.limit s c.args.map c.args.on c.args.count c.args.at.level c.args.pairs.now c.args.levels.now = c.requires.2 in
     let noted : c.settle.new.levels ≡ noted_by c.args.on c.args.levels.now c.args.at.level (eqb c.args.on.condition.0 0) =
-        noted_at c.args.on c.args.levels.now c.settle.new.levels c.args.at.level c.in_same-up.result.level c.in_same-up.ensures.2 c.settle.ensures in
+    noted_at c.args.on c.args.levels.now c.settle.new.levels c.args.at.level c.in_same-up.result.level c.in_same-up.ensures.2 c.settle.ensures in
     let step = c.in_same-up.ensures in (
       omega (
         arith,
@@ -116,16 +109,16 @@ branches-visit-under_same-requires t c =
       (
         subst (λ (m : ℕ). Searchable s m c.args.grouping.now) (sym step.0) c.requires.0,
         subst (λ (l : ℕ). Visitable l s c.join-same.result Scan c.args.count c.in_same-up.result.level c.args.pairs.now c.settle.new.levels) (sym step.3)
-        (subst (λ (k : ℕ). Visitable c.args.at.limit s c.join-same.result Scan c.args.count k c.args.pairs.now c.settle.new.levels) (sym step.2)
-        (record {
-          settled =
-              under_settled (limit_of c.args.at.limit) (lot_count s) s c.args.on able.path c.args.levels.now c.args.at.level
-              c.args.map.lots able.standing.represents.lots able.settled able.splits able.leaves c.join-same.result.lots c.settle.new.levels c.join-same.ensures.joined noted;
-          path = _;
-          standing = same-standing able.standing ok _ _ able.splits c.join-same.result c.join-same.ensures.joined;
-          resumes = tt;
-          levels = same-level able.standing ok _ _ able.splits c.args.at.level able.levels;
-        })),
+            (subst (λ (k : ℕ). Visitable c.args.at.limit s c.join-same.result Scan c.args.count k c.args.pairs.now c.settle.new.levels) (sym step.2)
+            (record {
+              settled =
+                  under_settled (limit_of c.args.at.limit) (lot_count s) s c.args.on able.path c.args.levels.now c.args.at.level
+                  c.args.map.lots able.standing.represents.lots able.settled able.splits able.leaves c.join-same.result.lots c.settle.new.levels c.join-same.ensures.joined noted;
+              path = _;
+              standing = same-standing able.standing ok _ _ able.splits c.join-same.result c.join-same.ensures.joined;
+              resumes = tt;
+              levels = same-level able.standing ok _ _ able.splits c.args.at.level able.levels;
+            })),
       ),
     )
 
@@ -136,19 +129,19 @@ branches-returns-in_default t c =
     let ok : Accepted s = c.requires.0.sheet.accepted in
     let able : Splittable c.args.at.limit s c.args.map c.args.on c.args.count c.args.at.level c.args.pairs.now c.args.levels.now = c.requires.2 in
     let noted : c.settle.new.levels ≡ noted_by c.args.on c.args.levels.now c.args.at.level (eqb c.args.on.condition.0 0) =
-        noted_at c.args.on c.args.levels.now c.settle.new.levels c.args.at.level c.in_same-up.result.level c.in_same-up.ensures.2 c.settle.ensures in
+    noted_at c.args.on c.args.levels.now c.settle.new.levels c.args.at.level c.in_same-up.result.level c.in_same-up.ensures.2 c.settle.ensures in
     let over : Later c.args.levels.now c.visit-under_same.new.levels (c.args.at.level + 1) =
-        under_later (limit_of c.args.at.limit) (lot_count c.args.sheet.now) c.args.sheet.now c.args.on able.path c.args.levels.now c.args.at.level
-        c.args.map.lots able.standing.represents.lots able.settled able.splits able.leaves c.settle.new.levels c.visit-under_same.new.levels noted
-        (subst (λ (k : ℕ). Later c.settle.new.levels c.visit-under_same.new.levels k) c.in_same-up.ensures.2 c.visit-under_same.ensures.untouched.1) in
+    under_later (limit_of c.args.at.limit) (lot_count c.args.sheet.now) c.args.sheet.now c.args.on able.path c.args.levels.now c.args.at.level
+    c.args.map.lots able.standing.represents.lots able.settled able.splits able.leaves c.settle.new.levels c.visit-under_same.new.levels noted
+    (subst (λ (k : ℕ). Later c.settle.new.levels c.visit-under_same.new.levels k) c.in_same-up.ensures.2 c.visit-under_same.ensures.untouched.1) in
     let written : c.write.new.store ≡ sets c.args.store.now (record_length * c.args.at.before) (encode (split_record c.args.on.a.0 c.args.on.b.0 0)) =
-        written_here c.args.at.before c.args.store.now _ (encode (split_record c.args.on.a.0 c.args.on.b.0 0)) c.write.ensures in
+    written_here c.args.at.before c.args.store.now _ (encode (split_record c.args.on.a.0 c.args.on.b.0 0)) c.write.ensures in
     let told : (ds : Decisions) → Splits c.args.at.limit s c.args.map c.args.count c.args.pairs.now c.args.on.a.0 c.args.on.b.0 ds
-        → (tree : Tree) → Visits (rule_of c.args.at.limit s) (same c.args.on.a.0 c.args.on.b.0 ∷ ds) tree
-        → Explored (c.args.at.before + 1) c.write.new.store c.visit-under_same.new.store c.args.grouping.now c.visit-under_same.new.grouping c.visit-under_same.result tree =
-        told_same c.args.at.limit s c.args.map c.join-same.result c.args.count c.args.pairs.now c.args.on.a.0 c.args.on.b.0 c.args.at.before
-        c.in_same-up.result.limit c.in_same-up.result.before _ _ _ _ _ ok c.in_same-up.ensures.3 c.in_same-up.ensures.1 c.join-same.ensures.joined
-        c.visit-under_same.ensures.visited in
+    → (tree : Tree) → Visits (rule_of c.args.at.limit s) (same c.args.on.a.0 c.args.on.b.0 ∷ ds) tree
+    → Explored (c.args.at.before + 1) c.write.new.store c.visit-under_same.new.store c.args.grouping.now c.visit-under_same.new.grouping c.visit-under_same.result tree =
+    told_same c.args.at.limit s c.args.map c.join-same.result c.args.count c.args.pairs.now c.args.on.a.0 c.args.on.b.0 c.args.at.before
+    c.in_same-up.result.limit c.in_same-up.result.before _ _ _ _ _ ok c.in_same-up.ensures.3 c.in_same-up.ensures.1 c.join-same.ensures.joined
+    c.visit-under_same.ensures.visited in
     record {
       visited = λ ds tree st e res v.
           split-ended (split_tree v e) c.args.at.before c.args.store.now _ _ c.args.grouping.now _ written _ (told ds (st, e)) c.in_default.not-Cannot;
@@ -162,19 +155,19 @@ branches-returns-then-capacity_of-n t c =
     let ok : Accepted s = c.requires.0.sheet.accepted in
     let able : Splittable c.args.at.limit s c.args.map c.args.on c.args.count c.args.at.level c.args.pairs.now c.args.levels.now = c.requires.2 in
     let noted : c.settle.new.levels ≡ noted_by c.args.on c.args.levels.now c.args.at.level (eqb c.args.on.condition.0 0) =
-        noted_at c.args.on c.args.levels.now c.settle.new.levels c.args.at.level c.in_same-up.result.level c.in_same-up.ensures.2 c.settle.ensures in
+    noted_at c.args.on c.args.levels.now c.settle.new.levels c.args.at.level c.in_same-up.result.level c.in_same-up.ensures.2 c.settle.ensures in
     let over : Later c.args.levels.now c.visit-under_same.new.levels (c.args.at.level + 1) =
-        under_later (limit_of c.args.at.limit) (lot_count c.args.sheet.now) c.args.sheet.now c.args.on able.path c.args.levels.now c.args.at.level
-        c.args.map.lots able.standing.represents.lots able.settled able.splits able.leaves c.settle.new.levels c.visit-under_same.new.levels noted
-        (subst (λ (k : ℕ). Later c.settle.new.levels c.visit-under_same.new.levels k) c.in_same-up.ensures.2 c.visit-under_same.ensures.untouched.1) in
+    under_later (limit_of c.args.at.limit) (lot_count c.args.sheet.now) c.args.sheet.now c.args.on able.path c.args.levels.now c.args.at.level
+    c.args.map.lots able.standing.represents.lots able.settled able.splits able.leaves c.settle.new.levels c.visit-under_same.new.levels noted
+    (subst (λ (k : ℕ). Later c.settle.new.levels c.visit-under_same.new.levels k) c.in_same-up.ensures.2 c.visit-under_same.ensures.untouched.1) in
     let written : c.write.new.store ≡ sets c.args.store.now (record_length * c.args.at.before) (encode (split_record c.args.on.a.0 c.args.on.b.0 0)) =
-        written_here c.args.at.before c.args.store.now _ (encode (split_record c.args.on.a.0 c.args.on.b.0 0)) c.write.ensures in
+    written_here c.args.at.before c.args.store.now _ (encode (split_record c.args.on.a.0 c.args.on.b.0 0)) c.write.ensures in
     let told : (ds : Decisions) → Splits c.args.at.limit s c.args.map c.args.count c.args.pairs.now c.args.on.a.0 c.args.on.b.0 ds
-        → (tree : Tree) → Visits (rule_of c.args.at.limit s) (same c.args.on.a.0 c.args.on.b.0 ∷ ds) tree
-        → Explored (c.args.at.before + 1) c.write.new.store c.visit-under_same.new.store c.args.grouping.now c.visit-under_same.new.grouping c.visit-under_same.result tree =
-        told_same c.args.at.limit s c.args.map c.join-same.result c.args.count c.args.pairs.now c.args.on.a.0 c.args.on.b.0 c.args.at.before
-        c.in_same-up.result.limit c.in_same-up.result.before _ _ _ _ _ ok c.in_same-up.ensures.3 c.in_same-up.ensures.1 c.join-same.ensures.joined
-        c.visit-under_same.ensures.visited in
+    → (tree : Tree) → Visits (rule_of c.args.at.limit s) (same c.args.on.a.0 c.args.on.b.0 ∷ ds) tree
+    → Explored (c.args.at.before + 1) c.write.new.store c.visit-under_same.new.store c.args.grouping.now c.visit-under_same.new.grouping c.visit-under_same.result tree =
+    told_same c.args.at.limit s c.args.map c.join-same.result c.args.count c.args.pairs.now c.args.on.a.0 c.args.on.b.0 c.args.at.before
+    c.in_same-up.result.limit c.in_same-up.result.before _ _ _ _ _ ok c.in_same-up.ensures.3 c.in_same-up.ensures.1 c.join-same.ensures.joined
+    c.visit-under_same.ensures.visited in
     record {
       visited = λ ds tree st e res v.
           split_over (split_tree v e) c.args.at.before c.args.store.now _ _ c.args.grouping.now _ written _ (told ds (st, e)) c.in-Cannot.n c.in-Cannot.is
@@ -197,17 +190,17 @@ branches-visit-requires t c =
     let ok : Accepted s = c.requires.0.sheet.accepted in
     let able : Splittable c.args.at.limit s c.args.map c.args.on c.args.count c.args.at.level c.args.pairs.now c.args.levels.now = c.requires.2 in
     let noted : c.settle.new.levels ≡ noted_by c.args.on c.args.levels.now c.args.at.level (eqb c.args.on.condition.0 0) =
-        noted_at c.args.on c.args.levels.now c.settle.new.levels c.args.at.level c.in_same-up.result.level c.in_same-up.ensures.2 c.settle.ensures in
+    noted_at c.args.on c.args.levels.now c.settle.new.levels c.args.at.level c.in_same-up.result.level c.in_same-up.ensures.2 c.settle.ensures in
     let over : Later c.args.levels.now c.visit-under_same.new.levels (c.args.at.level + 1) =
-        under_later (limit_of c.args.at.limit) (lot_count c.args.sheet.now) c.args.sheet.now c.args.on able.path c.args.levels.now c.args.at.level
-        c.args.map.lots able.standing.represents.lots able.settled able.splits able.leaves c.settle.new.levels c.visit-under_same.new.levels noted
-        (subst (λ (k : ℕ). Later c.settle.new.levels c.visit-under_same.new.levels k) c.in_same-up.ensures.2 c.visit-under_same.ensures.untouched.1) in
+    under_later (limit_of c.args.at.limit) (lot_count c.args.sheet.now) c.args.sheet.now c.args.on able.path c.args.levels.now c.args.at.level
+    c.args.map.lots able.standing.represents.lots able.settled able.splits able.leaves c.settle.new.levels c.visit-under_same.new.levels noted
+    (subst (λ (k : ℕ). Later c.settle.new.levels c.visit-under_same.new.levels k) c.in_same-up.ensures.2 c.visit-under_same.ensures.untouched.1) in
     let apart_stands : (ds : Decisions) → Splits c.args.at.limit s c.args.map c.args.count c.args.pairs.now c.args.on.a.0 c.args.on.b.0 ds
-        → Standing c.args.at.limit s c.args.map c.set_apart.new.pairs (c.args.count + 1) (apart c.args.on.a.0 c.args.on.b.0 ∷ ds) =
-        λ ds at. apart-standing at.0 ok _ _ at.1 c.visit-under_same.new.pairs c.set_apart.new.pairs c.visit-under_same.auto.pairs c.visit-under_same.ensures.untouched.0 c.set_apart.ensures in
+    → Standing c.args.at.limit s c.args.map c.set_apart.new.pairs (c.args.count + 1) (apart c.args.on.a.0 c.args.on.b.0 ∷ ds) =
+    λ ds at. apart-standing at.0 ok _ _ at.1 c.visit-under_same.new.pairs c.set_apart.new.pairs c.visit-under_same.auto.pairs c.visit-under_same.ensures.untouched.0 c.set_apart.ensures in
     let apart_resumes : (ds : Decisions) → SplitLeaves (limit_of c.args.at.limit) (lot_count s) s c.args.on ds
-        → Resumes (limit_of c.args.at.limit) (lot_count s) s c.apart_place-from.result (apart c.args.on.a.0 c.args.on.b.0 ∷ ds) =
-        λ ds leaves. subst (λ (p : Place). Resumes (limit_of c.args.at.limit) (lot_count s) s p (apart c.args.on.a.0 c.args.on.b.0 ∷ ds)) (sym c.apart_place-from.ensures) leaves in
+    → Resumes (limit_of c.args.at.limit) (lot_count s) s c.apart_place-from.result (apart c.args.on.a.0 c.args.on.b.0 ∷ ds) =
+    λ ds leaves. subst (λ (p : Place). Resumes (limit_of c.args.at.limit) (lot_count s) s p (apart c.args.on.a.0 c.args.on.b.0 ∷ ds)) (sym c.apart_place-from.ensures) leaves in
     let step = c.in_apart-at.ensures in (
       omega (
         arith,
@@ -217,18 +210,18 @@ branches-visit-requires t c =
       ),
       (
         subst (λ (m : ℕ). Searchable s m c.visit-under_same.new.grouping) (sym step.0)
-        (record { sheet = c.requires.0.sheet; lots = c.visit-under_same.auto.grouping ∙ c.requires.0.lots }),
+            (record { sheet = c.requires.0.sheet; lots = c.visit-under_same.auto.grouping ∙ c.requires.0.lots }),
         subst (λ (l : ℕ). Visitable l s c.args.map c.apart_place-from.result (c.args.count + 1) c.in_apart-at.result.level c.set_apart.new.pairs c.clear_above.new.levels) (sym step.3)
-        (subst (λ (k : ℕ). Visitable c.args.at.limit s c.args.map c.apart_place-from.result (c.args.count + 1) k c.set_apart.new.pairs c.clear_above.new.levels) (sym step.2)
-        (record {
-          settled =
-              restored_settled c.args.map.lots s c.args.levels.now c.visit-under_same.new.levels c.clear_above.new.levels c.args.at.level
-              able.settled over c.clear_above.ensures;
-          path = _;
-          standing = apart_stands _ (able.standing, able.splits);
-          resumes = apart_resumes _ able.leaves;
-          levels = apart-level able.standing ok _ _ able.splits c.args.at.level able.levels;
-        })),
+            (subst (λ (k : ℕ). Visitable c.args.at.limit s c.args.map c.apart_place-from.result (c.args.count + 1) k c.set_apart.new.pairs c.clear_above.new.levels) (sym step.2)
+            (record {
+              settled =
+                  restored_settled c.args.map.lots s c.args.levels.now c.visit-under_same.new.levels c.clear_above.new.levels c.args.at.level
+                  able.settled over c.clear_above.ensures;
+              path = _;
+              standing = apart_stands _ (able.standing, able.splits);
+              resumes = apart_resumes _ able.leaves;
+              levels = apart-level able.standing ok _ _ able.splits c.args.at.level able.levels;
+            })),
       ),
     )
 
@@ -238,30 +231,30 @@ branches-returns t c =
     let ok : Accepted s = c.requires.0.sheet.accepted in
     let able : Splittable c.args.at.limit s c.args.map c.args.on c.args.count c.args.at.level c.args.pairs.now c.args.levels.now = c.requires.2 in
     let noted : c.settle.new.levels ≡ noted_by c.args.on c.args.levels.now c.args.at.level (eqb c.args.on.condition.0 0) =
-        noted_at c.args.on c.args.levels.now c.settle.new.levels c.args.at.level c.in_same-up.result.level c.in_same-up.ensures.2 c.settle.ensures in
+    noted_at c.args.on c.args.levels.now c.settle.new.levels c.args.at.level c.in_same-up.result.level c.in_same-up.ensures.2 c.settle.ensures in
     let over : Later c.args.levels.now c.visit-under_same.new.levels (c.args.at.level + 1) =
-        under_later (limit_of c.args.at.limit) (lot_count c.args.sheet.now) c.args.sheet.now c.args.on able.path c.args.levels.now c.args.at.level
-        c.args.map.lots able.standing.represents.lots able.settled able.splits able.leaves c.settle.new.levels c.visit-under_same.new.levels noted
-        (subst (λ (k : ℕ). Later c.settle.new.levels c.visit-under_same.new.levels k) c.in_same-up.ensures.2 c.visit-under_same.ensures.untouched.1) in
+    under_later (limit_of c.args.at.limit) (lot_count c.args.sheet.now) c.args.sheet.now c.args.on able.path c.args.levels.now c.args.at.level
+    c.args.map.lots able.standing.represents.lots able.settled able.splits able.leaves c.settle.new.levels c.visit-under_same.new.levels noted
+    (subst (λ (k : ℕ). Later c.settle.new.levels c.visit-under_same.new.levels k) c.in_same-up.ensures.2 c.visit-under_same.ensures.untouched.1) in
     let written : c.write.new.store ≡ sets c.args.store.now (record_length * c.args.at.before) (encode (split_record c.args.on.a.0 c.args.on.b.0 0)) =
-        written_here c.args.at.before c.args.store.now _ (encode (split_record c.args.on.a.0 c.args.on.b.0 0)) c.write.ensures in
+    written_here c.args.at.before c.args.store.now _ (encode (split_record c.args.on.a.0 c.args.on.b.0 0)) c.write.ensures in
     let told : (ds : Decisions) → Splits c.args.at.limit s c.args.map c.args.count c.args.pairs.now c.args.on.a.0 c.args.on.b.0 ds
-        → (tree : Tree) → Visits (rule_of c.args.at.limit s) (same c.args.on.a.0 c.args.on.b.0 ∷ ds) tree
-        → Explored (c.args.at.before + 1) c.write.new.store c.visit-under_same.new.store c.args.grouping.now c.visit-under_same.new.grouping c.visit-under_same.result tree =
-        told_same c.args.at.limit s c.args.map c.join-same.result c.args.count c.args.pairs.now c.args.on.a.0 c.args.on.b.0 c.args.at.before
-        c.in_same-up.result.limit c.in_same-up.result.before _ _ _ _ _ ok c.in_same-up.ensures.3 c.in_same-up.ensures.1 c.join-same.ensures.joined
-        c.visit-under_same.ensures.visited in
+    → (tree : Tree) → Visits (rule_of c.args.at.limit s) (same c.args.on.a.0 c.args.on.b.0 ∷ ds) tree
+    → Explored (c.args.at.before + 1) c.write.new.store c.visit-under_same.new.store c.args.grouping.now c.visit-under_same.new.grouping c.visit-under_same.result tree =
+    told_same c.args.at.limit s c.args.map c.join-same.result c.args.count c.args.pairs.now c.args.on.a.0 c.args.on.b.0 c.args.at.before
+    c.in_same-up.result.limit c.in_same-up.result.before _ _ _ _ _ ok c.in_same-up.ensures.3 c.in_same-up.ensures.1 c.join-same.ensures.joined
+    c.visit-under_same.ensures.visited in
     let apart_stands : (ds : Decisions) → Splits c.args.at.limit s c.args.map c.args.count c.args.pairs.now c.args.on.a.0 c.args.on.b.0 ds
-        → Standing c.args.at.limit s c.args.map c.set_apart.new.pairs (c.args.count + 1) (apart c.args.on.a.0 c.args.on.b.0 ∷ ds) =
-        λ ds at. apart-standing at.0 ok _ _ at.1 c.visit-under_same.new.pairs c.set_apart.new.pairs c.visit-under_same.auto.pairs c.visit-under_same.ensures.untouched.0 c.set_apart.ensures in
+    → Standing c.args.at.limit s c.args.map c.set_apart.new.pairs (c.args.count + 1) (apart c.args.on.a.0 c.args.on.b.0 ∷ ds) =
+    λ ds at. apart-standing at.0 ok _ _ at.1 c.visit-under_same.new.pairs c.set_apart.new.pairs c.visit-under_same.auto.pairs c.visit-under_same.ensures.untouched.0 c.set_apart.ensures in
     let apart_resumes : (ds : Decisions) → SplitLeaves (limit_of c.args.at.limit) (lot_count s) s c.args.on ds
-        → Resumes (limit_of c.args.at.limit) (lot_count s) s c.apart_place-from.result (apart c.args.on.a.0 c.args.on.b.0 ∷ ds) =
-        λ ds leaves. subst (λ (p : Place). Resumes (limit_of c.args.at.limit) (lot_count s) s p (apart c.args.on.a.0 c.args.on.b.0 ∷ ds)) (sym c.apart_place-from.ensures) leaves in
+    → Resumes (limit_of c.args.at.limit) (lot_count s) s c.apart_place-from.result (apart c.args.on.a.0 c.args.on.b.0 ∷ ds) =
+    λ ds leaves. subst (λ (p : Place). Resumes (limit_of c.args.at.limit) (lot_count s) s p (apart c.args.on.a.0 c.args.on.b.0 ∷ ds)) (sym c.apart_place-from.ensures) leaves in
     let step = c.in_apart-at.ensures in
     let told_apart =
-        subst (λ (l : ℕ). VisitExplores l s c.args.map c.apart_place-from.result (c.args.count + 1) c.set_apart.new.pairs
-        c.in_apart-at.result.before c.set_next.new.store c.visit.new.store c.visit-under_same.new.grouping c.visit.new.grouping
-        c.visit.result) step.3 c.visit.ensures.visited in
+    subst (λ (l : ℕ). VisitExplores l s c.args.map c.apart_place-from.result (c.args.count + 1) c.set_apart.new.pairs
+    c.in_apart-at.result.before c.set_next.new.store c.visit.new.store c.visit-under_same.new.grouping c.visit.new.grouping
+    c.visit.result) step.3 c.visit.ensures.visited in
     record {
       visited = λ ds tree st e res v.
           split-apart (split_tree v e) c.args.at.before c.args.store.now _ c.visit-under_same.new.store c.args.grouping.now _
@@ -310,10 +303,10 @@ visit-returns-in-Ground-clause-visited t c =
     let s : List ℕ = c.args.sheet.now in
     let room : c.args.at.before < capacity c.args.store.now = omega (arith, c.capacity_of.ensures, c.if-capacity_of-before.false) in
     let stands : (ds : Decisions) → VisitedBy c.args.at.limit s c.args.map c.args.from c.args.count c.args.pairs.now ds → Stands (limit_of c.args.at.limit) (length c.args.grouping.now) s c.locate-place.result ds =
-        λ ds at. c.locate-place.ensures.stands (limit_of c.args.at.limit) (length c.args.grouping.now) ds at.0.represents.lots
-        (subst (λ (n : ℕ). Resumes (limit_of c.args.at.limit) n s c.args.from ds) (sym c.requires.0.lots) at.1) in
+    λ ds at. c.locate-place.ensures.stands (limit_of c.args.at.limit) (length c.args.grouping.now) ds at.0.represents.lots
+    (subst (λ (n : ℕ). Resumes (limit_of c.args.at.limit) n s c.args.from ds) (sym c.requires.0.lots) at.1) in
     let found : (ds : Decisions) → VisitedBy c.args.at.limit s c.args.map c.args.from c.args.count c.args.pairs.now ds → node_as c.node_at-found.result ≡ node ds (conditions s) =
-        λ ds at. c.node_at-found.ensures.node _ _ ds at.0.represents (stands ds at) in
+    λ ds at. c.node_at-found.ensures.node _ _ ds at.0.represents (stands ds at) in
     let place : c.args.at.before + 1 - 1 ≡ c.args.at.before = omega arith in
     λ ds tree st res v.
     ground_explored c.args.at.before c.args.store.now _ c.args.grouping.now room c.in-Ground.c.0 tree
@@ -332,10 +325,10 @@ visit-none_taken-untaken-requires t c =
     let s : List ℕ = c.args.sheet.now in
     let lots_within : length c.args.grouping.now ≤ most_lots = omega (arith, c.requires.0.lots, (sound s c.requires.0.sheet.accepted).header.lots) in
     let untouched₀ : Untouched c.args.pairs.now c.node_at-found.new.pairs c.args.count =
-        outside-front c.node_at-found.ensures.outside c.args.count (omega (arith, c.requires.1.standing.room)) in
+    outside-front c.node_at-found.ensures.outside c.args.count (omega (arith, c.requires.1.standing.room)) in
     let standing₀ : (ds : Decisions) → Standing c.args.at.limit s c.args.map c.args.pairs.now c.args.count ds
-        → Standing c.args.at.limit s c.args.map c.node_at-found.new.pairs c.args.count ds =
-        λ ds st. below_standing st c.node_at-found.new.pairs c.node_at-found.auto.pairs untouched₀ in
+    → Standing c.args.at.limit s c.args.map c.node_at-found.new.pairs c.args.count ds =
+    λ ds st. below_standing st c.node_at-found.new.pairs c.node_at-found.auto.pairs untouched₀ in
     (markable (standing₀ _ c.requires.1.standing), lots_within, within-rises s c.locate-place.result c.locate-place.ensures.within)
 
 -- it is met,
@@ -351,21 +344,21 @@ visit-returns-in-Met-untaken-clause-visited t c =
     let s : List ℕ = c.args.sheet.now in
     let room : c.args.at.before < capacity c.args.store.now = omega (arith, c.capacity_of.ensures, c.if-capacity_of-before.false) in
     let stands : (ds : Decisions) → VisitedBy c.args.at.limit s c.args.map c.args.from c.args.count c.args.pairs.now ds → Stands (limit_of c.args.at.limit) (length c.args.grouping.now) s c.locate-place.result ds =
-        λ ds at. c.locate-place.ensures.stands (limit_of c.args.at.limit) (length c.args.grouping.now) ds at.0.represents.lots
-        (subst (λ (n : ℕ). Resumes (limit_of c.args.at.limit) n s c.args.from ds) (sym c.requires.0.lots) at.1) in
+    λ ds at. c.locate-place.ensures.stands (limit_of c.args.at.limit) (length c.args.grouping.now) ds at.0.represents.lots
+    (subst (λ (n : ℕ). Resumes (limit_of c.args.at.limit) n s c.args.from ds) (sym c.requires.0.lots) at.1) in
     let found : (ds : Decisions) → VisitedBy c.args.at.limit s c.args.map c.args.from c.args.count c.args.pairs.now ds → node_as c.node_at-found.result ≡ node ds (conditions s) =
-        λ ds at. c.node_at-found.ensures.node _ _ ds at.0.represents (stands ds at) in
+    λ ds at. c.node_at-found.ensures.node _ _ ds at.0.represents (stands ds at) in
     let untouched₀ : Untouched c.args.pairs.now c.node_at-found.new.pairs c.args.count =
-        outside-front c.node_at-found.ensures.outside c.args.count (omega (arith, c.requires.1.standing.room)) in
+    outside-front c.node_at-found.ensures.outside c.args.count (omega (arith, c.requires.1.standing.room)) in
     let standing₀ : (ds : Decisions) → Standing c.args.at.limit s c.args.map c.args.pairs.now c.args.count ds
-        → Standing c.args.at.limit s c.args.map c.node_at-found.new.pairs c.args.count ds =
-        λ ds st. below_standing st c.node_at-found.new.pairs c.node_at-found.auto.pairs untouched₀ in
+    → Standing c.args.at.limit s c.args.map c.node_at-found.new.pairs c.args.count ds =
+    λ ds st. below_standing st c.node_at-found.new.pairs c.node_at-found.auto.pairs untouched₀ in
     let none : (ds : Decisions) → VisitedBy c.args.at.limit s c.args.map c.args.from c.args.count c.args.pairs.now ds → taken ds 1 (conditions s) ≡ no_condition =
-        λ ds at. met-none ds (conditions s) (sym (found ds at) ∙ ap node_as c.in-Met.is) in
+    λ ds at. met-none ds (conditions s) (sym (found ds at) ∙ ap node_as c.in-Met.is) in
     let looked : (ds : Decisions) → VisitedBy c.args.at.limit s c.args.map c.args.from c.args.count c.args.pairs.now ds → rule_of c.args.at.limit s ds ≡ untaken_as c.none_taken-untaken.result =
-        λ ds at. under_none (limit_of c.args.at.limit) (lot_count s) (conditions s) ds (none ds at)
-        ∙ sym (subst (λ (n : ℕ). untaken_as c.none_taken-untaken.result ≡ none_taken (limit_of c.args.at.limit) n ds) c.requires.0.lots
-        (c.none_taken-untaken.ensures.node s ds (standing₀ ds at.0).represents (stands ds at) (none ds at))) in
+    λ ds at. under_none (limit_of c.args.at.limit) (lot_count s) (conditions s) ds (none ds at)
+    ∙ sym (subst (λ (n : ℕ). untaken_as c.none_taken-untaken.result ≡ none_taken (limit_of c.args.at.limit) n ds) c.requires.0.lots
+    (c.none_taken-untaken.ensures.node s ds (standing₀ ds at.0).represents (stands ds at) (none ds at))) in
     let place : c.args.at.before + 1 - 1 ≡ c.args.at.before = omega arith in
     λ ds tree st res v.
     met_explored c.args.at.before c.args.store.now _ c.args.grouping.now room ds _ tree
@@ -379,21 +372,21 @@ visit-returns-in-Clique-clause-visited t c =
     let s : List ℕ = c.args.sheet.now in
     let room : c.args.at.before < capacity c.args.store.now = omega (arith, c.capacity_of.ensures, c.if-capacity_of-before.false) in
     let stands : (ds : Decisions) → VisitedBy c.args.at.limit s c.args.map c.args.from c.args.count c.args.pairs.now ds → Stands (limit_of c.args.at.limit) (length c.args.grouping.now) s c.locate-place.result ds =
-        λ ds at. c.locate-place.ensures.stands (limit_of c.args.at.limit) (length c.args.grouping.now) ds at.0.represents.lots
-        (subst (λ (n : ℕ). Resumes (limit_of c.args.at.limit) n s c.args.from ds) (sym c.requires.0.lots) at.1) in
+    λ ds at. c.locate-place.ensures.stands (limit_of c.args.at.limit) (length c.args.grouping.now) ds at.0.represents.lots
+    (subst (λ (n : ℕ). Resumes (limit_of c.args.at.limit) n s c.args.from ds) (sym c.requires.0.lots) at.1) in
     let found : (ds : Decisions) → VisitedBy c.args.at.limit s c.args.map c.args.from c.args.count c.args.pairs.now ds → node_as c.node_at-found.result ≡ node ds (conditions s) =
-        λ ds at. c.node_at-found.ensures.node _ _ ds at.0.represents (stands ds at) in
+    λ ds at. c.node_at-found.ensures.node _ _ ds at.0.represents (stands ds at) in
     let untouched₀ : Untouched c.args.pairs.now c.node_at-found.new.pairs c.args.count =
-        outside-front c.node_at-found.ensures.outside c.args.count (omega (arith, c.requires.1.standing.room)) in
+    outside-front c.node_at-found.ensures.outside c.args.count (omega (arith, c.requires.1.standing.room)) in
     let standing₀ : (ds : Decisions) → Standing c.args.at.limit s c.args.map c.args.pairs.now c.args.count ds
-        → Standing c.args.at.limit s c.args.map c.node_at-found.new.pairs c.args.count ds =
-        λ ds st. below_standing st c.node_at-found.new.pairs c.node_at-found.auto.pairs untouched₀ in
+    → Standing c.args.at.limit s c.args.map c.node_at-found.new.pairs c.args.count ds =
+    λ ds st. below_standing st c.node_at-found.new.pairs c.node_at-found.auto.pairs untouched₀ in
     let none : (ds : Decisions) → VisitedBy c.args.at.limit s c.args.map c.args.from c.args.count c.args.pairs.now ds → taken ds 1 (conditions s) ≡ no_condition =
-        λ ds at. met-none ds (conditions s) (sym (found ds at) ∙ ap node_as c.in-Met.is) in
+    λ ds at. met-none ds (conditions s) (sym (found ds at) ∙ ap node_as c.in-Met.is) in
     let looked : (ds : Decisions) → VisitedBy c.args.at.limit s c.args.map c.args.from c.args.count c.args.pairs.now ds → rule_of c.args.at.limit s ds ≡ untaken_as c.none_taken-untaken.result =
-        λ ds at. under_none (limit_of c.args.at.limit) (lot_count s) (conditions s) ds (none ds at)
-        ∙ sym (subst (λ (n : ℕ). untaken_as c.none_taken-untaken.result ≡ none_taken (limit_of c.args.at.limit) n ds) c.requires.0.lots
-        (c.none_taken-untaken.ensures.node s ds (standing₀ ds at.0).represents (stands ds at) (none ds at))) in
+    λ ds at. under_none (limit_of c.args.at.limit) (lot_count s) (conditions s) ds (none ds at)
+    ∙ sym (subst (λ (n : ℕ). untaken_as c.none_taken-untaken.result ≡ none_taken (limit_of c.args.at.limit) n ds) c.requires.0.lots
+    (c.none_taken-untaken.ensures.node s ds (standing₀ ds at.0).represents (stands ds at) (none ds at))) in
     let place : c.args.at.before + 1 - 1 ≡ c.args.at.before = omega arith in
     λ ds tree st res v.
     clique_explored c.args.at.before c.args.store.now _ c.args.grouping.now room tree
@@ -406,34 +399,34 @@ visit-branches-requires t c =
     let s : List ℕ = c.args.sheet.now in
     let room : c.args.at.before < capacity c.args.store.now = omega (arith, c.capacity_of.ensures, c.if-capacity_of-before.false) in
     let stands : (ds : Decisions) → VisitedBy c.args.at.limit s c.args.map c.args.from c.args.count c.args.pairs.now ds → Stands (limit_of c.args.at.limit) (length c.args.grouping.now) s c.locate-place.result ds =
-        λ ds at. c.locate-place.ensures.stands (limit_of c.args.at.limit) (length c.args.grouping.now) ds at.0.represents.lots
-        (subst (λ (n : ℕ). Resumes (limit_of c.args.at.limit) n s c.args.from ds) (sym c.requires.0.lots) at.1) in
+    λ ds at. c.locate-place.ensures.stands (limit_of c.args.at.limit) (length c.args.grouping.now) ds at.0.represents.lots
+    (subst (λ (n : ℕ). Resumes (limit_of c.args.at.limit) n s c.args.from ds) (sym c.requires.0.lots) at.1) in
     let found : (ds : Decisions) → VisitedBy c.args.at.limit s c.args.map c.args.from c.args.count c.args.pairs.now ds → node_as c.node_at-found.result ≡ node ds (conditions s) =
-        λ ds at. c.node_at-found.ensures.node _ _ ds at.0.represents (stands ds at) in
+    λ ds at. c.node_at-found.ensures.node _ _ ds at.0.represents (stands ds at) in
     let untouched₀ : Untouched c.args.pairs.now c.node_at-found.new.pairs c.args.count =
-        outside-front c.node_at-found.ensures.outside c.args.count (omega (arith, c.requires.1.standing.room)) in
+    outside-front c.node_at-found.ensures.outside c.args.count (omega (arith, c.requires.1.standing.room)) in
     let standing₀ : (ds : Decisions) → Standing c.args.at.limit s c.args.map c.args.pairs.now c.args.count ds
-        → Standing c.args.at.limit s c.args.map c.node_at-found.new.pairs c.args.count ds =
-        λ ds st. below_standing st c.node_at-found.new.pairs c.node_at-found.auto.pairs untouched₀ in
+    → Standing c.args.at.limit s c.args.map c.node_at-found.new.pairs c.args.count ds =
+    λ ds st. below_standing st c.node_at-found.new.pairs c.node_at-found.auto.pairs untouched₀ in
     let known : Parts c.args.at.limit s c.args.map c.args.from c.args.count c.args.pairs.now c.match-found.pairs c.match-found.on =
-        elim c.match-found.branch [
-          visit-in-Split w ↦ rw (w.pairs-is, w.on-is) (record {
-            sized = c.node_at-found.auto.pairs;
-            untouched = untouched₀;
-            splits = λ ds at. split_under (limit_of c.args.at.limit) (lot_count s) s ds _ _ (sym (ap node_as w.in-Split.is) ∙ found ds at);
-            leaves = λ ds at.
-                term_leaves (limit_of c.args.at.limit) (lot_count s) s ds w.in-Split.on
-                (subst (λ (k : declared.Node). TermLeaves s k ds) w.in-Split.is (c.node_at-found.ensures.leaves _ _ ds at.0.represents (stands ds at)));
-          })
-        | visit-in-Met+in-Split-untaken w ↦
+    elim c.match-found.branch [
+      | visit-in-Split w ↦ rw (w.pairs-is, w.on-is) (record {
+        sized = c.node_at-found.auto.pairs;
+        untouched = untouched₀;
+        splits = λ ds at. split_under (limit_of c.args.at.limit) (lot_count s) s ds _ _ (sym (ap node_as w.in-Split.is) ∙ found ds at);
+        leaves = λ ds at.
+            term_leaves (limit_of c.args.at.limit) (lot_count s) s ds w.in-Split.on
+            (subst (λ (k : declared.Node). TermLeaves s k ds) w.in-Split.is (c.node_at-found.ensures.leaves _ _ ds at.0.represents (stands ds at)));
+      })
+      | visit-in-Met+in-Split-untaken w ↦
           let none : (ds : Decisions) → VisitedBy c.args.at.limit s c.args.map c.args.from c.args.count c.args.pairs.now ds → taken ds 1 (conditions s) ≡ no_condition =
-        λ ds at. met-none ds (conditions s) (sym (found ds at) ∙ ap node_as w.in-Met.is) in
-    let looked : (ds : Decisions) → VisitedBy c.args.at.limit s c.args.map c.args.from c.args.count c.args.pairs.now ds → rule_of c.args.at.limit s ds ≡ untaken_as w.none_taken-untaken.result =
-        λ ds at. under_none (limit_of c.args.at.limit) (lot_count s) (conditions s) ds (none ds at)
-        ∙ sym (subst (λ (n : ℕ). untaken_as w.none_taken-untaken.result ≡ none_taken (limit_of c.args.at.limit) n ds) c.requires.0.lots
-        (w.none_taken-untaken.ensures.node s ds (standing₀ ds at.0).represents (stands ds at) (none ds at))) in
+          λ ds at. met-none ds (conditions s) (sym (found ds at) ∙ ap node_as w.in-Met.is) in
+          let looked : (ds : Decisions) → VisitedBy c.args.at.limit s c.args.map c.args.from c.args.count c.args.pairs.now ds → rule_of c.args.at.limit s ds ≡ untaken_as w.none_taken-untaken.result =
+          λ ds at. under_none (limit_of c.args.at.limit) (lot_count s) (conditions s) ds (none ds at)
+          ∙ sym (subst (λ (n : ℕ). untaken_as w.none_taken-untaken.result ≡ none_taken (limit_of c.args.at.limit) n ds) c.requires.0.lots
+          (w.none_taken-untaken.ensures.node s ds (standing₀ ds at.0).represents (stands ds at) (none ds at))) in
           let untouched₁ : Untouched c.args.pairs.now w.none_taken-untaken.new.pairs c.args.count =
-        λ i h. outside-front w.none_taken-untaken.ensures.outside c.args.count (omega (arith, c.requires.1.standing.room, c.node_at-found.auto.pairs)) i h ∙ untouched₀ i h in
+          λ i h. outside-front w.none_taken-untaken.ensures.outside c.args.count (omega (arith, c.requires.1.standing.room, c.node_at-found.auto.pairs)) i h ∙ untouched₀ i h in
           rw (w.pairs-is, w.on-is) (record {
             sized = w.none_taken-untaken.auto.pairs ∙ c.node_at-found.auto.pairs;
             untouched = untouched₁;
@@ -443,7 +436,7 @@ visit-branches-requires t c =
                 (subst (λ (n : ℕ). PairLeaves (limit_of c.args.at.limit) n s w.none_taken-untaken.result ds) c.requires.0.lots
                 (w.none_taken-untaken.ensures.leaves s ds (standing₀ ds at.0).represents (stands ds at) (none ds at)));
           })
-        ] in
+    ] in
     let path = c.requires.1 in (
       omega (arith, c.decreases, below_same path.standing c.match-found.pairs known.sized known.untouched),
       (
@@ -464,34 +457,34 @@ pub visit-returns : goal.visit-returns
 visit-returns t c =
     let s : List ℕ = c.args.sheet.now in
     let stands : (ds : Decisions) → VisitedBy c.args.at.limit s c.args.map c.args.from c.args.count c.args.pairs.now ds → Stands (limit_of c.args.at.limit) (length c.args.grouping.now) s c.locate-place.result ds =
-        λ ds at. c.locate-place.ensures.stands (limit_of c.args.at.limit) (length c.args.grouping.now) ds at.0.represents.lots
-        (subst (λ (n : ℕ). Resumes (limit_of c.args.at.limit) n s c.args.from ds) (sym c.requires.0.lots) at.1) in
+    λ ds at. c.locate-place.ensures.stands (limit_of c.args.at.limit) (length c.args.grouping.now) ds at.0.represents.lots
+    (subst (λ (n : ℕ). Resumes (limit_of c.args.at.limit) n s c.args.from ds) (sym c.requires.0.lots) at.1) in
     let found : (ds : Decisions) → VisitedBy c.args.at.limit s c.args.map c.args.from c.args.count c.args.pairs.now ds → node_as c.node_at-found.result ≡ node ds (conditions s) =
-        λ ds at. c.node_at-found.ensures.node _ _ ds at.0.represents (stands ds at) in
+    λ ds at. c.node_at-found.ensures.node _ _ ds at.0.represents (stands ds at) in
     let untouched₀ : Untouched c.args.pairs.now c.node_at-found.new.pairs c.args.count =
-        outside-front c.node_at-found.ensures.outside c.args.count (omega (arith, c.requires.1.standing.room)) in
+    outside-front c.node_at-found.ensures.outside c.args.count (omega (arith, c.requires.1.standing.room)) in
     let standing₀ : (ds : Decisions) → Standing c.args.at.limit s c.args.map c.args.pairs.now c.args.count ds
-        → Standing c.args.at.limit s c.args.map c.node_at-found.new.pairs c.args.count ds =
-        λ ds st. below_standing st c.node_at-found.new.pairs c.node_at-found.auto.pairs untouched₀ in
+    → Standing c.args.at.limit s c.args.map c.node_at-found.new.pairs c.args.count ds =
+    λ ds st. below_standing st c.node_at-found.new.pairs c.node_at-found.auto.pairs untouched₀ in
     let known : Parts c.args.at.limit s c.args.map c.args.from c.args.count c.args.pairs.now c.match-found.pairs c.match-found.on =
-        elim c.match-found.branch [
-          visit-in-Split w ↦ rw (w.pairs-is, w.on-is) (record {
-            sized = c.node_at-found.auto.pairs;
-            untouched = untouched₀;
-            splits = λ ds at. split_under (limit_of c.args.at.limit) (lot_count s) s ds _ _ (sym (ap node_as w.in-Split.is) ∙ found ds at);
-            leaves = λ ds at.
-                term_leaves (limit_of c.args.at.limit) (lot_count s) s ds w.in-Split.on
-                (subst (λ (k : declared.Node). TermLeaves s k ds) w.in-Split.is (c.node_at-found.ensures.leaves _ _ ds at.0.represents (stands ds at)));
-          })
-        | visit-in-Met+in-Split-untaken w ↦
+    elim c.match-found.branch [
+      | visit-in-Split w ↦ rw (w.pairs-is, w.on-is) (record {
+        sized = c.node_at-found.auto.pairs;
+        untouched = untouched₀;
+        splits = λ ds at. split_under (limit_of c.args.at.limit) (lot_count s) s ds _ _ (sym (ap node_as w.in-Split.is) ∙ found ds at);
+        leaves = λ ds at.
+            term_leaves (limit_of c.args.at.limit) (lot_count s) s ds w.in-Split.on
+            (subst (λ (k : declared.Node). TermLeaves s k ds) w.in-Split.is (c.node_at-found.ensures.leaves _ _ ds at.0.represents (stands ds at)));
+      })
+      | visit-in-Met+in-Split-untaken w ↦
           let none : (ds : Decisions) → VisitedBy c.args.at.limit s c.args.map c.args.from c.args.count c.args.pairs.now ds → taken ds 1 (conditions s) ≡ no_condition =
-        λ ds at. met-none ds (conditions s) (sym (found ds at) ∙ ap node_as w.in-Met.is) in
-    let looked : (ds : Decisions) → VisitedBy c.args.at.limit s c.args.map c.args.from c.args.count c.args.pairs.now ds → rule_of c.args.at.limit s ds ≡ untaken_as w.none_taken-untaken.result =
-        λ ds at. under_none (limit_of c.args.at.limit) (lot_count s) (conditions s) ds (none ds at)
-        ∙ sym (subst (λ (n : ℕ). untaken_as w.none_taken-untaken.result ≡ none_taken (limit_of c.args.at.limit) n ds) c.requires.0.lots
-        (w.none_taken-untaken.ensures.node s ds (standing₀ ds at.0).represents (stands ds at) (none ds at))) in
+          λ ds at. met-none ds (conditions s) (sym (found ds at) ∙ ap node_as w.in-Met.is) in
+          let looked : (ds : Decisions) → VisitedBy c.args.at.limit s c.args.map c.args.from c.args.count c.args.pairs.now ds → rule_of c.args.at.limit s ds ≡ untaken_as w.none_taken-untaken.result =
+          λ ds at. under_none (limit_of c.args.at.limit) (lot_count s) (conditions s) ds (none ds at)
+          ∙ sym (subst (λ (n : ℕ). untaken_as w.none_taken-untaken.result ≡ none_taken (limit_of c.args.at.limit) n ds) c.requires.0.lots
+          (w.none_taken-untaken.ensures.node s ds (standing₀ ds at.0).represents (stands ds at) (none ds at))) in
           let untouched₁ : Untouched c.args.pairs.now w.none_taken-untaken.new.pairs c.args.count =
-        λ i h. outside-front w.none_taken-untaken.ensures.outside c.args.count (omega (arith, c.requires.1.standing.room, c.node_at-found.auto.pairs)) i h ∙ untouched₀ i h in
+          λ i h. outside-front w.none_taken-untaken.ensures.outside c.args.count (omega (arith, c.requires.1.standing.room, c.node_at-found.auto.pairs)) i h ∙ untouched₀ i h in
           rw (w.pairs-is, w.on-is) (record {
             sized = w.none_taken-untaken.auto.pairs ∙ c.node_at-found.auto.pairs;
             untouched = untouched₁;
@@ -501,7 +494,7 @@ visit-returns t c =
                 (subst (λ (n : ℕ). PairLeaves (limit_of c.args.at.limit) n s w.none_taken-untaken.result ds) c.requires.0.lots
                 (w.none_taken-untaken.ensures.leaves s ds (standing₀ ds at.0).represents (stands ds at) (none ds at)));
           })
-        ] in
+    ] in
     record {
       visited = λ ds tree st res v.
           c.branches.ensures.visited ds tree (below_standing st c.match-found.pairs known.sized known.untouched) (known.splits ds (st, res)) (known.leaves ds (st, res)) v;

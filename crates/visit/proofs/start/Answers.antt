@@ -12,7 +12,6 @@ use Rattle.limit.specs.Scan.{limit_of}
 use Rattle.limit.proofs.Under.{under_visits}
 use Rattle.outcome.specs.Limited.{tree_of}
 use Rattle.visit.proofs.Standing.{start_standing, start_settled, start_level}
-use borrow.Author.Rules.{rules}
 use Rattle.visit.proofs.start.Goals as goal
 
 pub slice_bounds-levels-end : goal.slice_bounds-levels-end

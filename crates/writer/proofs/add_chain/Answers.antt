@@ -7,9 +7,7 @@ use Rattle.sheet.specs.declared.Term.{Term}
 use Rattle.sheet.specs.Conditions.{records_from}
 use Rattle.sheet.proofs.Accepted.{has_record, sound}
 use Rattle.sheet.proofs.ChainEnds.{on_sound, rest_shorter}
-use Rattle.writer.specs.Drafts.{draft}
-use Rattle.writer.proofs.Adding.{Adding, adding_start, adding_room, adding_next, adding_end}
-use borrow.Author.Rules.{rules}
+use Rattle.writer.proofs.Adding.{adding_start, adding_room, adding_next, adding_end}
 use Rattle.writer.proofs.add_chain.Goals as goal
 
 pub loop-at-init : goal.loop-at-init

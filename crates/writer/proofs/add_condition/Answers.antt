@@ -8,7 +8,6 @@ use Rattle.sheet.proofs.Accepted.{sound}
 use Rattle.sheet.proofs.ChainEnds.{head-on}
 use Rattle.writer.specs.Drafts.{Draft, draft, with_terms}
 use Rattle.writer.proofs.Rooms.{room-condition}
-use borrow.Author.Rules.{rules}
 use Rattle.writer.proofs.add_condition.Goals as goal
 
 pub head_at-head-requires : goal.head_at-head-requires

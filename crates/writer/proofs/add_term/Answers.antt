@@ -7,7 +7,6 @@ use Rattle.buffers.specs.Bytes.{two_bytes}
 use Rattle.sheet.specs.Conditions.{term_of}
 use Rattle.writer.specs.Drafts.{draft, with_term}
 use Rattle.writer.proofs.Stores.{record_stored}
-use borrow.Author.Rules.{rules}
 use Rattle.writer.proofs.add_term.Goals as goal
 
 pub returns : goal.returns

@@ -6,7 +6,6 @@ use lib.Seq.{sets}
 use Rattle.buffers.specs.Bytes.{two_bytes}
 use Rattle.writer.specs.Drafts.{draft, begun}
 use Rattle.writer.proofs.Stores.{header-stored}
-use borrow.Author.Rules.{rules}
 use Rattle.writer.proofs.begin.Goals as goal
 
 pub returns : goal.returns

@@ -3,7 +3,6 @@ use Prim.Native.Nat.{ℕ}
 use mathlib.Core.List.{List}
 use mathlib.Core.Path.{ap}
 use Rattle.writer.specs.Drafts.{draft, with_condition}
-use borrow.Author.Rules.{rules}
 use Rattle.writer.proofs.begin_condition.Goals as goal
 
 pub returns : goal.returns

@@ -1,10 +1,10 @@
 -- `classes::Classes::marked_apart`: no pair from `left` on marks, so the first `count` pairs mark exactly where the first `left` do; `left` falls.
 use Prim.Native.Nat.{◌+◌, ◌*◌, ◌-◌, ◌≤◌}
-use mathlib.Core.Path.{◌≡◌, refl, sym, ◌∙◌}
+use mathlib.Core.Path.{refl, sym, ◌∙◌}
 use native.Mathlib.Omega.{arith}
 use lib.ListN.{get_or}
 use Rattle.sheet.specs.Format.{most_lots}
-use Rattle.classes.proofs.Marks.{marked_by, found, passed, passed_by_xor, none_left_lem}
+use Rattle.classes.proofs.Marks.{found, passed, passed_by_xor, none_left_lem}
 use borrow.Author.Rules.{rules}
 use Rattle.classes.proofs.Classes.marked_apart.Goals as goal
 

@@ -1,10 +1,6 @@
-use Prim.Native.Nat.{◌+◌, ◌*◌, ◌-◌, ◌≤◌}
-use mathlib.Core.Path.{◌≡◌, refl, sym, ◌∙◌}
-use native.Mathlib.Omega.{arith}
-use lib.ListN.{get_or}
-use Rattle.sheet.specs.Format.{most_lots}
-use Rattle.classes.proofs.Marks.{marked_by, found, passed, passed_by_xor, none_left_lem}
-use borrow.Author.Rules.{rules}
+use Prim.Native.Nat.{◌≤◌}
+use mathlib.Core.Path.{◌≡◌}
+use Rattle.classes.proofs.Marks.{marked_by}
 use Rattle.classes.proofs.Classes.marked_apart.Given as goal
 
 abbrev pub invariant-loop-left : goal.invariant-loop-left

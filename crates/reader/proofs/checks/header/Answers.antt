@@ -11,7 +11,6 @@ use Rattle.sheet.specs.Format.{sheet_length}
 use Rattle.sheet.specs.Checks.{or_else, refuses_if, first_refusal, header_checks}
 use Rattle.sheet.specs.Inner.{header_at}
 use Rattle.reader.proofs.Tests.{header_by_tests}
-use borrow.Author.Rules.{rules}
 use Rattle.reader.proofs.checks.header.Goals as goal
 
 pub returns-then-sheet-lt6 : goal.returns-then-sheet-lt6

@@ -8,7 +8,6 @@ use Rattle.sheet.specs.declared.Term.{Term}
 use Rattle.sheet.specs.Format.{vacant}
 use Rattle.sheet.specs.Inner.{HasRecord}
 use Rattle.sheet.proofs.Accepted.{conditions-counted, has_record}
-use borrow.Author.Rules.{rules}
 use Rattle.reader.proofs.checks.left_out.Goals as goal
 
 flagged : (v : Bool) {b : Bool} → b ≡ true → false ≡ not (v || b)

@@ -1,6 +1,6 @@
 -- `reader::checks::reached` meets its contract. The loop's invariant: each record before the present one is vacant or flagged.
 -- The measure is how many records are left.
-use Prim.Native.Nat.{ℕ, ◌+◌, ◌-◌, ◌≤◌}
+use Prim.Native.Nat.{ℕ, ◌≤◌}
 use mathlib.Core.Bool.{Bool, not, ◌||◌}
 use mathlib.Core.List.{List}
 use mathlib.Core.Path.{sym, ◌∙◌}
@@ -8,8 +8,7 @@ use native.Mathlib.Omega.{arith}
 use Rattle.sheet.specs.Format.{record_count, vacant}
 use Rattle.sheet.specs.Inner.{is_flagged, unflagged_verdict}
 use Rattle.sheet.proofs.Accepted.{records-counted}
-use Rattle.sheet.proofs.Loops.{Counting, start, end, refused, passed}
-use borrow.Author.Rules.{rules}
+use Rattle.sheet.proofs.Loops.{start, end, refused, passed}
 use Rattle.reader.proofs.checks.reached.Goals as goal
 
 abbrev left_out : List ℕ → List ℕ → ℕ → Bool

@@ -1,13 +1,9 @@
-use Prim.Native.Nat.{ℕ, ◌+◌, ◌-◌, ◌≤◌}
+use Prim.Native.Nat.{ℕ, ◌+◌, ◌-◌}
 use mathlib.Core.Bool.{Bool, not, ◌||◌}
 use mathlib.Core.List.{List}
-use mathlib.Core.Path.{sym, ◌∙◌}
-use native.Mathlib.Omega.{arith}
 use Rattle.sheet.specs.Format.{record_count, vacant}
-use Rattle.sheet.specs.Inner.{is_flagged, unflagged_verdict}
-use Rattle.sheet.proofs.Accepted.{records-counted}
-use Rattle.sheet.proofs.Loops.{Counting, start, end, refused, passed}
-use borrow.Author.Rules.{rules}
+use Rattle.sheet.specs.Inner.{is_flagged}
+use Rattle.sheet.proofs.Loops.{Counting}
 use Rattle.reader.proofs.checks.reached.Given as goal
 
 abbrev left_out : List ℕ → List ℕ → ℕ → Bool

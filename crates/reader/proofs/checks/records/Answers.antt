@@ -1,15 +1,14 @@
 -- `reader::checks::records` meets its contract. The loop's invariant: each record before the present one is vacant or well formed.
 -- The measure is how many records are left.
-use Prim.Native.Nat.{ℕ, ◌+◌, ◌-◌, ◌≤◌}
+use Prim.Native.Nat.{ℕ, ◌≤◌}
 use mathlib.Core.Bool.{Bool, not, ◌||◌}
 use mathlib.Core.List.{List}
 use mathlib.Core.Path.{sym, ap, ◌∙◌}
 use native.Mathlib.Omega.{arith}
 use Rattle.sheet.specs.Format.{lowest_lot, record_count, vacant}
 use Rattle.sheet.specs.Checks.{check5, well_formed}
-use Rattle.sheet.proofs.Loops.{Counting, start, end, refused, passed}
+use Rattle.sheet.proofs.Loops.{start, end, refused, passed}
 use Rattle.sheet.proofs.Accepted.{conditions-counted, records-counted, has_record}
-use borrow.Author.Rules.{rules}
 use Rattle.reader.proofs.checks.records.Goals as goal
 
 abbrev badly_formed : List ℕ → ℕ → Bool

@@ -1,13 +1,9 @@
-use Prim.Native.Nat.{ℕ, ◌+◌, ◌-◌, ◌≤◌}
+use Prim.Native.Nat.{ℕ, ◌+◌, ◌-◌}
 use mathlib.Core.Bool.{Bool, not, ◌||◌}
 use mathlib.Core.List.{List}
-use mathlib.Core.Path.{sym, ap, ◌∙◌}
-use native.Mathlib.Omega.{arith}
 use Rattle.sheet.specs.Format.{lowest_lot, record_count, vacant}
-use Rattle.sheet.specs.Checks.{check5, well_formed}
-use Rattle.sheet.proofs.Loops.{Counting, start, end, refused, passed}
-use Rattle.sheet.proofs.Accepted.{conditions-counted, records-counted, has_record}
-use borrow.Author.Rules.{rules}
+use Rattle.sheet.specs.Checks.{well_formed}
+use Rattle.sheet.proofs.Loops.{Counting}
 use Rattle.reader.proofs.checks.records.Given as goal
 
 abbrev badly_formed : List ℕ → ℕ → Bool

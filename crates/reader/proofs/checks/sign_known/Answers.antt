@@ -1,6 +1,5 @@
 -- `reader::checks::sign_known` meets its contract: the first test decides, or else the second.
 use borrow.Author.Tests.{eq-eqb, ne_eqb}
-use borrow.Author.Rules.{rules}
 use Rattle.reader.proofs.checks.sign_known.Goals as goal
 
 pub returns-then-x : goal.returns-then-x

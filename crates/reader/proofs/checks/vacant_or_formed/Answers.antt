@@ -2,7 +2,6 @@
 use mathlib.Core.Bool.{or-true, or-false}
 use mathlib.Core.Path.{sym, ◌∙◌}
 use Rattle.sheet.specs.Format.{vacant}
-use borrow.Author.Rules.{rules}
 use Rattle.reader.proofs.checks.vacant_or_formed.Goals as goal
 
 pub returns-then-well_formed : goal.returns-then-well_formed

@@ -8,7 +8,6 @@ use Rattle.sheet.specs.Format.{lowest_lot, same_sign, apart_sign}
 use Rattle.sheet.specs.Checks.{well_formed}
 use Rattle.sheet.specs.Inner.{sign_spare_at}
 use Rattle.reader.proofs.Tests.{record_tests, record_by_tests}
-use borrow.Author.Rules.{rules}
 use Rattle.reader.proofs.checks.well_formed.Goals as goal
 
 pub returns-then-not-sign_known : goal.returns-then-not-sign_known

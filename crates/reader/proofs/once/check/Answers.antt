@@ -6,7 +6,6 @@ use native.Mathlib.Omega.{arith}
 use Rattle.sheet.proofs.Accepted.{records-counted, heads_found}
 use Rattle.sheet.proofs.Walks.{signs_tell, nexts_found}
 use Rattle.reader.proofs.Flags.{zeros_length, none_flagged}
-use borrow.Author.Rules.{rules}
 use Rattle.reader.proofs.once.check.Goals as goal
 
 pub slice_bounds-flags-end : goal.slice_bounds-flags-end

@@ -1,7 +1,6 @@
 -- `reader::once::reached_once` meets its contract: where the walk refuses, check 17 or 6 does; where it passes, the flags are what check 7 asks of.
 use mathlib.Core.Path.{◌∙◌}
 use Rattle.reader.proofs.WalkLoops.{walk_refused, walk_passed}
-use borrow.Author.Rules.{rules}
 use Rattle.reader.proofs.once.reached_once.Goals as goal
 
 pub returns-in-Refuses : goal.returns-in-Refuses

@@ -1,14 +1,13 @@
 -- `reader::once::walk` meets its contract. The loop's invariant: the walk along all chains is what it is from the present condition on,
 -- after the records that the flags stand for. The measure is how many conditions are left.
-use Prim.Native.Nat.{ℕ, ◌+◌, ◌-◌, ◌≤◌}
+use Prim.Native.Nat.{ℕ, ◌≤◌}
 use mathlib.Core.List.{List}
-use mathlib.Core.Path.{sym, ◌∙◌}
+use mathlib.Core.Path.{◌∙◌}
 use native.Mathlib.Omega.{arith}
 use Rattle.sheet.specs.Format.{condition_count, head_at}
 use Rattle.sheet.specs.Inner.{WalkedTo, one_chain}
 use Rattle.sheet.proofs.Accepted.{conditions-counted}
-use Rattle.reader.proofs.WalkLoops.{Chaining, none_yet, all_walked, chain-refused, chain-passed}
-use borrow.Author.Rules.{rules}
+use Rattle.reader.proofs.WalkLoops.{none_yet, all_walked, chain-refused, chain-passed}
 use Rattle.reader.proofs.once.walk.Goals as goal
 
 pub loop-c-init : goal.loop-c-init

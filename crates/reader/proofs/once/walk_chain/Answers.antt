@@ -7,9 +7,7 @@ use borrow.Author.Tests.{eq-eqb, ne_eqb}
 use Rattle.sheet.specs.Format.{vacant}
 use Rattle.sheet.specs.declared.Term.{Term}
 use Rattle.sheet.proofs.Accepted.{conditions-counted, has_record}
-use Rattle.reader.proofs.Flags.{unflagged}
-use Rattle.reader.proofs.WalkLoops.{Walking, begun, ended, nothing, hit, fewer, more}
-use borrow.Author.Rules.{rules}
+use Rattle.reader.proofs.WalkLoops.{begun, ended, nothing, hit, fewer, more}
 use Rattle.reader.proofs.once.walk_chain.Goals as goal
 
 pub loop-at-init : goal.loop-at-init

@@ -1,5 +1,4 @@
 -- `sheet::format::header_of` meets its contract, field by field, by what `number_at` ensures.
-use borrow.Author.Rules.{rules}
 use Rattle.sheet.proofs.format.header_of.Goals as goal
 
 pub returns : goal.returns

@@ -8,7 +8,6 @@ use borrow.Author.Tests.{eqb-true, eqb-false}
 use Rattle.sheet.specs.declared.Term.{Term}
 use Rattle.sheet.specs.Format.{sign_at, spare_at, first_lot_at, second_lot_at, next_at, vacant}
 use Rattle.sheet.proofs.Vacant.{Blank, not-vacant, blank_vacant}
-use borrow.Author.Rules.{rules}
 use Rattle.sheet.proofs.format.is_vacant.Goals as goal
 
 -- Where the others are zero, the last decides.

@@ -1,6 +1,5 @@
 -- `sheet::format::sign_spare_at` meets its contract: it reads the number where the definition says, by the header's own m.
 use mathlib.Core.Path.{◌∙◌}
-use borrow.Author.Rules.{rules}
 use Rattle.sheet.proofs.format.sign_spare_at.Goals as goal
 
 pub returns : goal.returns

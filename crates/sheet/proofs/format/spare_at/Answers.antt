@@ -1,6 +1,5 @@
 -- `sheet::format::spare_at` meets its contract: it reads the byte where the definition says, by the header's own m.
 use Rattle.sheet.specs.Format.{spare_at}
-use borrow.Author.Rules.{rules}
 use Rattle.sheet.proofs.format.spare_at.Goals as goal
 
 pub returns : goal.returns

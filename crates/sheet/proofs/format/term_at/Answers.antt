@@ -1,6 +1,5 @@
 -- `sheet::format::term_at` meets its contract, field by field, by what `record_place` and `number_at` ensure.
 use Rattle.sheet.specs.Format.{sign_at, first_lot_at, second_lot_at, next_at}
-use borrow.Author.Rules.{rules}
 use Rattle.sheet.proofs.format.term_at.Goals as goal
 
 pub returns : goal.returns

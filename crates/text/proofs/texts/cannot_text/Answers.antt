@@ -1,14 +1,12 @@
 -- `texts::cannot_text` meets its contract: the first line, the records' lines and the last, one after the other.
 use Prim.Native.Nat.{ℕ, ◌+◌, ◌≤◌}
 use mathlib.Core.List.{List, ◌++◌}
-use mathlib.Core.Path.{◌∙◌}
 use native.Mathlib.Omega.{arith}
 use lib.ListN.{length}
 use Rattle.lines.specs.Lines.{header_line, record_lines, cannot_line}
 use Rattle.lines.specs.Code.{first_records}
 use Rattle.text.specs.Code.{cannot_text}
-use Rattle.buffers.proofs.Writing.{Writing, start_three, room-left, room, then, last, wrote_first}
-use borrow.Author.Rules.{rules}
+use Rattle.buffers.proofs.Writing.{Writing, start_three, room-left, then, last, wrote_first}
 use Rattle.text.proofs.texts.cannot_text.Goals as goal
 
 pub number_line-requires : goal.number_line-requires

@@ -1,16 +1,14 @@
 -- `texts::met_text` meets its contract: the first line, the records' lines and the last, one after the other.
-use Prim.Native.Nat.{ℕ, ◌+◌, ◌≤◌}
+use Prim.Native.Nat.{ℕ}
 use mathlib.Core.List.{List, ◌++◌}
-use mathlib.Core.Path.{◌≡◌, ap, ◌∙◌}
-use native.Mathlib.Omega.{arith}
-use lib.ListN.{length, take}
+use mathlib.Core.Path.{◌≡◌, ap}
+use lib.ListN.{take}
 use Rattle.sheet.specs.Format.{lot_count}
 use Rattle.sheet.specs.declared.Header.{Header}
 use Rattle.lines.specs.Lines.{header_line, record_lines, met_line}
 use Rattle.lines.specs.Code.{first_records}
 use Rattle.text.specs.Code.{met_text}
-use Rattle.buffers.proofs.Writing.{Writing, start_three, room-left, room, then, last, wrote_first}
-use borrow.Author.Rules.{rules}
+use Rattle.buffers.proofs.Writing.{Writing, start_three, then, last, wrote_first}
 use Rattle.text.proofs.texts.met_text.Goals as goal
 
 pub returns : goal.returns

@@ -2,7 +2,6 @@
 use native.Mathlib.Omega.{arith}
 use Rattle.buffers.proofs.Writing.{wrote_first}
 use Rattle.text.proofs.Room.{refused_most}
-use borrow.Author.Rules.{rules}
 use Rattle.text.proofs.texts.refused_text.Goals as goal
 
 pub refused_line-requires : goal.refused_line-requires
