@@ -9,7 +9,7 @@ use lib.Dec.{eqb}
 use lib.ListN.{length}
 use Rattle.sheet.specs.declared.Term as written
 use Rattle.sheet.specs.Checks.{Accepted}
-use Rattle.sheet.specs.Inner.{OnChain}
+use Rattle.sheet.specs.Inner.{OnChain, term_record_at}
 use Rattle.sheet.specs.Conditions.{term_of, term_at, terms_from}
 use Rattle.sheet.proofs.Accepted.{has_record, sound}
 use Rattle.sheet.proofs.ChainEnds.{rest_shorter}
@@ -20,11 +20,38 @@ use Rattle.evaluator.specs.Numbers.{number_at}
 use Rattle.evaluator.proofs.FirstTrue.{before_first_true, not-withdrawn, no_further, first_true}
 use Rattle.evaluator.proofs.Lots.{lots_numbered}
 use Rattle.evaluator.proofs.is_met.Goals as goal
+use Rattle.evaluator.proofs.is_met.Goals.{At-loop-at, Then-met, Else-met}
 
 -- What the loop says of the terms, and whether there are any, decides the condition.
 lifted : (f : ℕ → ℕ) (s : List ℕ) (head : ℕ) {b : Bool} → Accepted s → OnChain s head → any_term (holds f) (terms_from s head) ≡ b
     → (eqb head 0 || b) ≡ meets_condition f (terms_from s head)
 lifted f s head ok on e = sym (chain_some (holds f) s ok head on.within ∙ rw e)
+
+-- Whether a record's term is true is what `is_true` answers.
+told : (f : ℕ → ℕ) (s : List ℕ) (r : ℕ) (t : written.Term) {b : Bool} → b ≡ holds f (term_of t.sign t.a.0 t.b.0) → t ≡ term_record_at s r
+    → holds f (term_at s r) ≡ b
+told f s r t e read = sym (e ∙ ap (λ (t : written.Term). holds f (term_of t.sign t.a.0 t.b.0)) read)
+
+-- ---- where the loop stands, and where it ends
+
+-- At each turn it has passed no more terms than stand before the first true one, so that the term which it reads is that one or stands before it.
+reads_no_further : (c : At-loop-at) → length c.loop-at.invariant.0.passed ≤ before_first_true (number_at c.args.numbers.now) (terms_from c.args.sheet.now c.args.head.0)
+reads_no_further c = no_further (number_at c.args.numbers.now) c.loop-at.invariant.0
+
+-- A term that the loop passes is false;
+passed_false : (c : Else-met) → holds (number_at c.args.numbers.now) (term_at c.args.sheet.now c.loop-at.at.0) ≡ false
+passed_false c = told _ _ _ _ c.is_true-met.ensures c.term_at-t.ensures ∙ c.if-met.false
+
+-- one that it leaves at is true.
+left_at_true : (c : Then-met) → holds (number_at c.args.numbers.now) (term_at c.args.sheet.now c.loop-at.at.0) ≡ true
+left_at_true c = told _ _ _ _ c.is_true-met.ensures c.term_at-t.ensures ∙ c.if-met.true
+
+-- The term that the loop leaves at is the first true one: those before it are passed, and no other.
+leaves_at_first_true : (c : Then-met) → length c.loop-at.invariant.0.passed ≡ before_first_true (number_at c.args.numbers.now) (terms_from c.args.sheet.now c.args.head.0)
+leaves_at_first_true c =
+    first_true (number_at c.args.numbers.now) c.loop-at.invariant.0 c.requires.0.sheet.accepted (omega (arith, c.loop-at-test.true)) (left_at_true c)
+
+-- ---- the answers
 
 pub loop-at-init : goal.loop-at-init
 loop-at-init c =
@@ -36,9 +63,6 @@ term_at-t-requires c =
     let accepted : Accepted bytes = c.requires.0.sheet.accepted in
     -- The record is one of the sheet's.
     let record_number : 1 ≤ c.loop-at.at.0 = omega (arith, c.loop-at-test.true) in
-    -- At each turn it has passed no more terms than stand before the first true one, so that the term which it reads is that one or stands before it.
-    let reads_no_further : length c.loop-at.invariant.0.passed ≤ before_first_true (number_at c.args.numbers.now) (terms_from bytes c.args.head.0) =
-    no_further (number_at c.args.numbers.now) c.loop-at.invariant.0 in
     rw c.requires.0.sheet.counted
     (has_record (sound bytes accepted).header c.loop-at.at.0 record_number c.loop-at.invariant.0.on.within)
 
@@ -56,20 +80,13 @@ loop-at-smaller c =
 
 pub loop-at-preserved : goal.loop-at-preserved
 loop-at-preserved c =
-    let bytes : List ℕ = c.args.sheet.now in
-    let accepted : Accepted bytes = c.requires.0.sheet.accepted in
+    let ok : Accepted c.args.sheet.now = c.requires.0.sheet.accepted in
     let record_number : 1 ≤ c.loop-at.at.0 = omega (arith, c.loop-at-test.true) in
-    let assigned : ℕ → ℕ = number_at c.args.numbers.now in
-    let truth : Bool = holds assigned (term_at bytes c.loop-at.at.0) in
-    -- Whether the record's term is true is what `is_true` answers.
-    let answer : truth ≡ c.is_true-met.result = sym
-    (c.is_true-met.ensures
-    ∙ ap (λ (t : written.Term). holds assigned (term_of t.sign t.a.0 t.b.0)) c.term_at-t.ensures) in
-    -- A term that the loop passes is false.
-    let passed_false : truth ≡ false = answer ∙ c.if-met.false in
-    let ok = accepted in (
-      rw c.term_at-t.ensures (passing_next _ _ ok _ _ c.loop-at.invariant.0 record_number passed_false),
-      c.if-met.false ∙ sym (not-withdrawn assigned c.loop-at.invariant.0 ok record_number),
+    let passed : holds (number_at c.args.numbers.now) (term_at c.args.sheet.now c.loop-at.at.0) ≡ false =
+    told _ _ _ _ c.is_true-met.ensures c.term_at-t.ensures ∙ c.if-met.false in
+    (
+      rw c.term_at-t.ensures (passing_next _ _ ok _ _ c.loop-at.invariant.0 record_number passed),
+      c.if-met.false ∙ sym (not-withdrawn (number_at c.args.numbers.now) c.loop-at.invariant.0 ok record_number),
     )
 
 -- At the chain's end no term is true, and the condition is met where it has none;
@@ -84,19 +101,7 @@ returns-after-loop-at c =
 -- at a true term it is met.
 pub returns-then-met : goal.returns-then-met
 returns-then-met c =
-    let bytes : List ℕ = c.args.sheet.now in
-    let accepted : Accepted bytes = c.requires.0.sheet.accepted in
-    let record_number : 1 ≤ c.loop-at.at.0 = omega (arith, c.loop-at-test.true) in
-    let assigned : ℕ → ℕ = number_at c.args.numbers.now in
-    let truth : Bool = holds assigned (term_at bytes c.loop-at.at.0) in
-    let answer : truth ≡ c.is_true-met.result = sym
-    (c.is_true-met.ensures
-    ∙ ap (λ (t : written.Term). holds assigned (term_of t.sign t.a.0 t.b.0)) c.term_at-t.ensures) in
-    -- One that it leaves at is true.
-    let left_at_true : truth ≡ true = answer ∙ c.if-met.true in
-    -- The term that the loop leaves at is the first true one: those before it are passed, and no other.
-    let leaves_at_first_true : length c.loop-at.invariant.0.passed ≡ before_first_true assigned (terms_from bytes c.args.head.0) =
-    first_true assigned c.loop-at.invariant.0 accepted record_number left_at_true in
+    let ok : Accepted c.args.sheet.now = c.requires.0.sheet.accepted in
     c.if-met.true
     ∙ sym (or-true (eqb c.args.head.0 0))
-    ∙ lifted _ _ _ accepted c.requires.1 (found _ _ accepted _ _ c.loop-at.invariant.0 record_number left_at_true)
+    ∙ lifted _ _ _ ok c.requires.1 (found _ _ ok _ _ c.loop-at.invariant.0 (omega (arith, c.loop-at-test.true)) (left_at_true c))
