@@ -83,8 +83,7 @@ loop-at-preserved c =
     let ok : Accepted c.args.sheet.now = c.requires.0.sheet.accepted in
     let record_number : 1 ≤ c.loop-at.at.0 = omega (arith, c.loop-at-test.true) in
     let passed : holds (number_at c.args.numbers.now) (term_at c.args.sheet.now c.loop-at.at.0) ≡ false =
-    told _ _ _ _ c.is_true-met.ensures c.term_at-t.ensures ∙ c.if-met.false in
-    (
+    told _ _ _ _ c.is_true-met.ensures c.term_at-t.ensures ∙ c.if-met.false in (
       rw c.term_at-t.ensures (passing_next _ _ ok _ _ c.loop-at.invariant.0 record_number passed),
       c.if-met.false ∙ sym (not-withdrawn (number_at c.args.numbers.now) c.loop-at.invariant.0 ok record_number),
     )
