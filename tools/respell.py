@@ -1,5 +1,5 @@
 #!/usr/bin/env python3
-"""Spells the repository's own definitions and lemmas as today's Rattle does, once, after /opt/rattle/port/port.py, at the top of the repository.
+"""Spells the repository's own definitions and lemmas as today's Rattle does, once, after the kit's port.py, at the top of the repository.
 
     python3 tools/respell.py            rewrites the files in place, and writes the names to tools/respelled.tsv
     python3 tools/respell.py --list     prints the names alone
