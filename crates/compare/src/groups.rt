@@ -33,9 +33,11 @@ fn generated_group(first: Counts, relinked: bool, out: &mut impl Write) -> io::R
 fn generated(sheet: &mut [u8], first: Counts, relinked: bool) -> Counts {
     let mut counts = first;
     let mut state = FIRST_STATE;
-    for _ in 0..GENERATED {
+    let mut left = GENERATED;
+    while 0 < left {
         state = sheet_after(sheet, state, relinked);
         counts = examine_start(sheet, counts);
+        left -= 1;
     }
     counts
 }

@@ -91,7 +91,9 @@ fn add_term(sheet: &mut [u8], zero: bool, count: u16, m: u16, made: Made, last: 
 // So many terms of one condition.
 fn add_terms(sheet: &mut [u8], zero: bool, count: u16, m: u16, terms: u16, first: Made) -> Made {
     let mut made = first;
-    for left in (0..terms).rev() {
+    let mut left = terms;
+    while 0 < left {
+        left -= 1;
         made = add_term(sheet, zero, count, m, made, left == 0);
     }
     made
@@ -127,8 +129,10 @@ fn add_condition(sheet: &mut [u8], zero: bool, count: u16, m: u16, c: u16, made:
 // All m conditions, one after the other.
 fn add_conditions(sheet: &mut [u8], zero: bool, count: u16, m: u16, state: u64) -> Made {
     let mut made = Made { state, terms: 0 };
-    for c in 0..m {
+    let mut c: u16 = 0;
+    while c < m {
         made = add_condition(sheet, zero, count, m, c, made);
+        c += 1;
     }
     made
 }

@@ -26,11 +26,14 @@ fn with_digit(value: u32, byte: u8) -> u32 {
 pub fn number(text: &[u8], word: u8) -> u32 {
     let mut value: u32 = 0;
     let mut begun: u8 = 0;
-    for byte in text {
-        begun = words(begun, *byte);
+    let mut i: usize = 0;
+    while i < text.len() {
+        let byte = text[i];
+        begun = words(begun, byte);
         if begun == word {
-            value = with_digit(value, *byte);
+            value = with_digit(value, byte);
         }
+        i += 1;
     }
     value
 }

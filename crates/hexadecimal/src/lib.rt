@@ -24,8 +24,10 @@ pub fn decode(text: &[u8], bytes: &mut [u8]) -> usize
 {
     let mut n: usize = 0;
     let mut high = NO_DIGIT;
-    for byte in text {
-        let value = digit(*byte);
+    let mut i: usize = 0;
+    while i < text.len() {
+        let value = digit(text[i]);
+        i += 1;
         if value == NO_DIGIT {
             continue;
         }

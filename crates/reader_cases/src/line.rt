@@ -4,29 +4,31 @@ ghost use Rattle.std.specs.Prelude.{◌<◌, ◌≤◌, length};
 // The first place, from `at` on, that holds the byte, or the end of the text.
 pub fn find(text: &[u8], at: usize, byte: u8) -> usize
     requires { at ≤ length text.now }
-    ensures low { at ≤ result }
-    ensures high { result ≤ length text.now }
+    ensures { (at ≤ result) × (result ≤ length text.now) }
 {
-    for i in at..text.len() {
+    let mut i = at;
+    while i < text.len() {
         if text[i] == byte {
             return i;
         }
+        i += 1;
     }
-    text.len()
+    i
 }
 
 // The first place, from `at` on, that holds no blank, or the end of the text.
 pub fn skip(text: &[u8], at: usize) -> usize
     requires { at ≤ length text.now }
-    ensures low { at ≤ result }
-    ensures high { result ≤ length text.now }
+    ensures { (at ≤ result) × (result ≤ length text.now) }
 {
-    for i in at..text.len() {
+    let mut i = at;
+    while i < text.len() {
         if text[i] != b' ' {
             return i;
         }
+        i += 1;
     }
-    text.len()
+    i
 }
 
 // A number of a line, and the place after it.
@@ -39,8 +41,7 @@ pub struct Number {
 // The decimal number after the blanks at a place, 65,535 at most; 0 where there is none.
 pub fn number_at(text: &[u8], at: usize) -> Number
     requires { at ≤ length text.now }
-    ensures low { at ≤ result.at }
-    ensures high { result.at ≤ length text.now }
+    ensures { (at ≤ result.at) × (result.at ≤ length text.now) }
 {
     let mut i = skip(text, at);
     let mut value: u32 = 0;

@@ -26,7 +26,7 @@ fn field(m: u16, r: u16, offset: u8) -> usize {
 
 // n lots, m conditions, and k records on the first chain. Heads and records of the sheet before it are cleared.
 pub fn plain(bytes: &mut [u8; ROOM], n: u16, m: u16, k: u16) {
-    bytes.fill(0);
+    clear(bytes);
     put_number(bytes, 0, n);
     put_number(bytes, 2, m);
     put_number(bytes, 4, k);
@@ -36,15 +36,25 @@ pub fn plain(bytes: &mut [u8; ROOM], n: u16, m: u16, k: u16) {
     }
 }
 
+fn clear(bytes: &mut [u8; ROOM]) {
+    let mut i: usize = 0;
+    while i < ROOM {
+        bytes[i] = 0;
+        i += 1;
+    }
+}
+
 // Records 1 to k, each "same 1 1", one after the other.
 fn chain(bytes: &mut [u8; ROOM], m: u16, k: u16) {
+    let mut r = k;
     let mut next: u16 = 0;
-    for r in (1..=k).rev() {
+    while 0 < r {
         put(bytes, field(m, r, 0), 1);
         put_number(bytes, field(m, r, 2), 1);
         put_number(bytes, field(m, r, 4), 1);
         put_number(bytes, field(m, r, 6), next);
         next = r;
+        r -= 1;
     }
 }
 

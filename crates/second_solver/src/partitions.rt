@@ -42,8 +42,10 @@ fn with_names_of(sheet: &[u8], m: u16, r: u16, names: &mut [u8], count: usize) -
 // The lots that the records name; how many they are.
 fn name_lots(sheet: &[u8], m: u16, k: u16, names: &mut [u8]) -> usize {
     let mut count: usize = 0;
-    for r in (1..=k).rev() {
+    let mut r = k;
+    while 0 < r {
         count = with_names_of(sheet, m, r, names, count);
+        r -= 1;
     }
     count
 }
@@ -67,7 +69,8 @@ fn term_true(sheet: &[u8], m: u16, r: u16, names: &[u8], groups: &[u8]) -> bool 
 // Whether some term of the chain is true. A chain has at most 1,024 terms.
 fn some_term_true(sheet: &[u8], m: u16, head: u16, names: &[u8], groups: &[u8]) -> bool {
     let mut r = head;
-    for _ in 0..1024 {
+    let mut left: u16 = 1024;
+    while 0 < left {
         if r == 0 {
             return false;
         }
@@ -75,6 +78,7 @@ fn some_term_true(sheet: &[u8], m: u16, head: u16, names: &[u8], groups: &[u8]) 
             return true;
         }
         r = raw::number_at(sheet, raw::term_field(m, r, 6));
+        left -= 1;
     }
     false
 }
@@ -89,11 +93,13 @@ fn condition_met(sheet: &[u8], m: u16, head: u16, names: &[u8], groups: &[u8]) -
 
 // Whether every condition is met.
 fn all_conditions_met(sheet: &[u8], m: u16, names: &[u8], groups: &[u8]) -> bool {
-    for c in 0..m {
+    let mut c: u16 = 0;
+    while c < m {
         let head = raw::number_at(sheet, 6 + 2 * (c as usize));
         if !condition_met(sheet, m, head, names, groups) {
             return false;
         }
+        c += 1;
     }
     true
 }
@@ -101,15 +107,22 @@ fn all_conditions_met(sheet: &[u8], m: u16, names: &[u8], groups: &[u8]) -> bool
 // The highest group of the first lots.
 fn highest(groups: &[u8], lots: usize) -> u8 {
     let mut most: u8 = 0;
-    for i in 0..lots {
-        most = most.max(raw::byte_at(groups, i));
+    let mut i: usize = 0;
+    while i < lots {
+        let group = raw::byte_at(groups, i);
+        if most < group {
+            most = group;
+        }
+        i += 1;
     }
     most
 }
 
 // The last place whose lot can go to the group after its own; 0 if there is none. The first lot stays where it is.
 fn last_movable(groups: &[u8], lots: usize) -> usize {
-    for i in (1..lots).rev() {
+    let mut i = lots;
+    while 1 < i {
+        i -= 1;
         if raw::byte_at(groups, i) <= highest(groups, i) {
             return i;
         }
@@ -117,10 +130,14 @@ fn last_movable(groups: &[u8], lots: usize) -> usize {
     0
 }
 
-// Lots go back to the first group, after a place.
+// Lots go back to the first group, from a place on.
 fn clear_after(groups: &mut [u8], at: usize) {
-    if at < groups.len() {
-        groups[at + 1..].fill(0);
+    let mut i = groups.len();
+    while at < i {
+        i -= 1;
+        if at < i {
+            raw::put(groups, i, 0);
+        }
     }
 }
 
@@ -143,13 +160,15 @@ fn advance(groups: &mut [u8], lots: usize) -> bool {
 
 // Whether some way from this one on meets every condition.
 fn some_way(sheet: &[u8], m: u16, lots: usize, names: &[u8], groups: &mut [u8]) -> bool {
-    for _ in 0..WAYS {
+    let mut left = WAYS;
+    while 0 < left {
         if all_conditions_met(sheet, m, names, groups) {
             return true;
         }
         if !advance(groups, lots) {
             return false;
         }
+        left -= 1;
     }
     false
 }

@@ -18,9 +18,12 @@ fn refused(check: u32, place: u16) -> Refusal {
 
 // Check 4: the first condition whose head is above k, or 0.
 fn head_above(sheet: &[u8], m: u16, k: u16) -> u16 {
-    for c in 0..m {
-        if k < raw::number_at(sheet, 6 + 2 * (c as usize)) {
-            return c + 1;
+    let mut c: u16 = 0;
+    while c < m {
+        let head = raw::number_at(sheet, 6 + 2 * (c as usize));
+        c += 1;
+        if k < head {
+            return c;
         }
     }
     0
@@ -48,7 +51,9 @@ fn vacant(sheet: &[u8], m: u16, r: u16) -> bool {
 
 // Check 5: the first record that is neither in range nor vacant, or 0.
 fn out_of_range(sheet: &[u8], n: u16, m: u16, k: u16) -> u16 {
-    for r in 1..=k {
+    let mut r: u16 = 0;
+    while r < k {
+        r += 1;
         if !(in_range(sheet, n, m, k, r) | vacant(sheet, m, r)) {
             return r;
         }
@@ -61,7 +66,9 @@ fn out_of_range(sheet: &[u8], n: u16, m: u16, k: u16) -> u16 {
 fn walk(sheet: &[u8], m: u16, reached: &mut [u8]) -> Refusal {
     let mut c: u16 = 0;
     let mut r: u16 = 0;
-    for _ in 0..1281 {
+    let mut left: u16 = 1281;
+    while 0 < left {
+        left -= 1;
         if r == 0 {
             if m <= c {
                 return refused(0, 0);
@@ -84,7 +91,9 @@ fn walk(sheet: &[u8], m: u16, reached: &mut [u8]) -> Refusal {
 
 // Check 7: the first record that is neither reached nor vacant, or 0.
 fn never_reached(sheet: &[u8], m: u16, k: u16, reached: &[u8]) -> u16 {
-    for r in 1..=k {
+    let mut r: u16 = 0;
+    while r < k {
+        r += 1;
         if !((raw::byte_at(reached, r as usize) == 1) | vacant(sheet, m, r)) {
             return r;
         }

@@ -51,7 +51,9 @@ fn sheet_byte(sheet: &mut [u8], list: &[u8], at: usize, way: u8, damage: Damage)
 // Every byte of the list.
 pub fn lists(sheet: &[u8], list: &mut [u8], damage: Damage) -> Damage {
     let mut now = damage;
-    for at in (0..list.len()).rev() {
+    let mut at = list.len();
+    while 0 < at {
+        at -= 1;
         now = list_byte(sheet, list, at, 0, now);
         now = list_byte(sheet, list, at, 1, now);
         now = list_byte(sheet, list, at, 2, now);
@@ -62,7 +64,9 @@ pub fn lists(sheet: &[u8], list: &mut [u8], damage: Damage) -> Damage {
 // Every byte of the sheet.
 fn sheets(sheet: &mut [u8], list: &[u8], damage: Damage) -> Damage {
     let mut now = damage;
-    for at in (0..sheet.len()).rev() {
+    let mut at = sheet.len();
+    while 0 < at {
+        at -= 1;
         now = sheet_byte(sheet, list, at, 0, now);
         now = sheet_byte(sheet, list, at, 1, now);
         now = sheet_byte(sheet, list, at, 2, now);
@@ -118,7 +122,9 @@ fn condition(sheet: &[u8], list: &[u8], c: u16, damage: Damage) -> Damage {
 // Every condition of the sheet.
 pub fn conditions(sheet: &[u8], list: &[u8], damage: Damage) -> Damage {
     let mut now = damage;
-    for c in (0..raw::number_at(sheet, 2)).rev() {
+    let mut c = raw::number_at(sheet, 2);
+    while 0 < c {
+        c -= 1;
         now = condition(sheet, list, c, now);
     }
     now

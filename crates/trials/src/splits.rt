@@ -21,8 +21,10 @@ fn put_node(list: &mut [u8], r: u16, kind: u8, first: u16, second: u16, next: u1
 fn put_splits(list: &mut [u8], s: u16)
     requires { s ≤ 1025 }
 {
-    for r in 1..=s {
+    let mut r = s;
+    while 0 < r {
         put_node(list, r, 1, 1, 1, 2 * s + 2 - r);
+        r -= 1;
     }
 }
 
@@ -30,8 +32,10 @@ fn put_splits(list: &mut [u8], s: u16)
 fn put_grounds(list: &mut [u8], s: u16)
     requires { s ≤ 1025 }
 {
-    for r in s + 1..=2 * s + 1 {
-        put_node(list, r, 2, 1, 0, 0);
+    let mut left = s + 1;
+    while 0 < left {
+        put_node(list, s + left, 2, 1, 0, 0);
+        left -= 1;
     }
 }
 

@@ -122,8 +122,10 @@ fn say(
 fn checksum(bytes: &[u8]) -> u64 {
     let mut sum: u64 = 0;
     let mut passed: u64 = 0;
-    for byte in bytes.iter().rev() {
-        passed = (passed + (*byte as u64)) % 65521;
+    let mut i = bytes.len();
+    while 0 < i {
+        i -= 1;
+        passed = (passed + (bytes[i] as u64)) % 65521;
         sum = (sum + passed) % 65521;
     }
     sum

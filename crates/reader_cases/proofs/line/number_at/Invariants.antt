@@ -1,5 +1,6 @@
 -- `reader_cases::line::number_at`: the place stays within the text, and the value below a bound that fits.
-use Rattle.std.proofs.Common.{◌-◌, ◌≤◌, length}
+use Prim.Native.Nat.{◌≤◌, ◌-◌}
+use lib.ListN.{length}
 use Rattle.reader_cases.proofs.line.number_at.Given as goal
 
 abbrev pub invariant-loop-i : goal.invariant-loop-i

@@ -1,0 +1,10 @@
+-- `compare::groups::generated`: the sheets left fall.
+use mathlib.Core.Path.{◌≡◌}
+use lib.ListN.{length}
+use Rattle.compare.proofs.groups.generated.Given as goal
+
+abbrev pub invariant-loop-left : goal.invariant-loop-left
+invariant-loop-left l = length l.sheet ≡ length l.initial.sheet
+
+abbrev pub decreases-loop-left : goal.decreases-loop-left
+decreases-loop-left l = l.left
