@@ -9,8 +9,7 @@ use borrow.Author.Tests.{ltb-false}
 use lib.Dec.{eqb, ltb}
 use lib.ListN.{length}
 use Rattle.sheet.specs.Format.{lowest_lot}
-use Rattle.sheet.specs.declared.Verdict.{Verdict}
-use Rattle.sheet.specs.declared.Verdict.TheVariants.{Passes, Refuses}
+use Rattle.sheet.specs.Verdicts.{Verdict, Passes, Refuses}
 use Rattle.sheet.specs.Checks.{Accepted, or_else, refuses_if, first_refusal, sheet_verdict}
 use Rattle.sheet.specs.Answers.{refused, answered, answer_of}
 use Rattle.sheet.proofs.Further.{further, further_accepted}

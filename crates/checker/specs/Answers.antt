@@ -1,7 +1,7 @@
 -- The checker's cases, in document 01's numbers, and what they say of meaning, with a limit on the classes or without one (document 02, job 7).
 use Rattle.std.specs.Prelude.{ℕ, List, ◌↔◌, ◌≡◌}
-use Rattle.sheet.specs.declared.Verdict as verdicts
-use Rattle.sheet.specs.declared.Verdict.TheVariants as verdict
+use Rattle.sheet.specs.Verdicts as verdicts
+use Rattle.sheet.specs.Verdicts as verdict
 use Rattle.sheet.specs.Format.{lot_count}
 use Rattle.sheet.specs.Answers.{Answer, refused, answered}
 use Rattle.equality.specs.Meaning.{Meets}

@@ -1,7 +1,6 @@
 -- The evaluator's cases, in document 01's numbers, and what those say of meaning.
 use Rattle.std.specs.Prelude.{ℕ, zero, suc, ◌≤◌, ◌<◌, List}
-use Rattle.sheet.specs.declared.Verdict.{Verdict}
-use Rattle.sheet.specs.declared.Verdict.TheVariants.{Passes, Refuses}
+use Rattle.sheet.specs.Verdicts.{Verdict, Passes, Refuses}
 use Rattle.sheet.specs.Format.{condition_count}
 use Rattle.sheet.specs.Conditions.{condition_at, conditions}
 use Rattle.sheet.specs.Answers.{Answer, refused, answered}

@@ -3,7 +3,7 @@ use Prim.Native.Nat.{ℕ, zero, suc, ◌≤◌}
 use mathlib.Core.Bool.{Bool, false}
 use mathlib.Core.Path.{◌≡◌, refl, ap}
 use native.Mathlib.Omega.{arith}
-use Rattle.sheet.specs.declared.Verdict.TheVariants.{Passes}
+use Rattle.sheet.specs.Verdicts.{Passes}
 use Rattle.sheet.specs.Checks.{or_else, refuses_if, first_refusal}
 use Rattle.equality.proofs.Tests.{from_one}
 use Rattle.limit.specs.Meaning.{unlimited, up_to, most_limit, ill_limited, check20, Admitted}

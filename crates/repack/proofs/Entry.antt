@@ -2,7 +2,7 @@
 use Prim.Native.Nat.{ℕ}
 use mathlib.Core.List.{List}
 use mathlib.Core.Path.{◌≡◌, sym, subst, ◌∙◌}
-use Rattle.sheet.specs.declared.Verdict.{Verdict}
+use Rattle.sheet.specs.Verdicts.{Verdict}
 use Rattle.sheet.specs.Checks.{Accepted}
 use Rattle.sheet.specs.Answers.{Answer, refused, answered}
 use Rattle.writer.specs.declared.WriteAnswer.{WriteAnswer}

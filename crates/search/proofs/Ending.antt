@@ -8,7 +8,7 @@ use native.Mathlib.Omega.{arith}
 use borrow.Author.Tests.{lt-ltb, le-ltb}
 use lib.ListN.{length, take, drop, replicate, take-append-drop, length-replicate}
 use lib.Seq.{sets, sets-eq, length-take-le}
-use Rattle.sheet.specs.declared.Verdict.TheVariants.{Passes}
+use Rattle.sheet.specs.Verdicts.{Passes}
 use Rattle.sheet.specs.Format.{most_lots}
 use Rattle.equality.specs.Search.{Tree, is_met, node_count, met_decisions, grouping_bytes}
 use Rattle.outcome.specs.Nodes.{records}

@@ -2,8 +2,7 @@
 use Prim.Native.Nat.{ℕ}
 use mathlib.Core.List.{List}
 use mathlib.Core.Path.{◌≡◌, refl, sym, ap, subst, ◌∙◌}
-use Rattle.sheet.specs.declared.Verdict.{Verdict}
-use Rattle.sheet.specs.declared.Verdict.TheVariants.{Refuses}
+use Rattle.sheet.specs.Verdicts.{Verdict, Refuses}
 use Rattle.sheet.specs.Format.{lot_count}
 use Rattle.sheet.specs.Answers.{Answer}
 use Rattle.limit.specs.Meaning.{Limit, unlimited}

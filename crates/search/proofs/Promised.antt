@@ -10,8 +10,7 @@ use borrow.Author.Tests.{ltb-true, ltb-false, lt-ltb, le-ltb}
 use lib.Dec.{ltb}
 use lib.ListN.{length, drop}
 use lib.Seq.{take_at}
-use Rattle.sheet.specs.declared.Verdict.{Verdict}
-use Rattle.sheet.specs.declared.Verdict.TheVariants.{Passes, Refuses}
+use Rattle.sheet.specs.Verdicts.{Verdict, Passes, Refuses}
 use Rattle.sheet.specs.Format.{lowest_lot, lot_count}
 use Rattle.sheet.specs.Checks.{or_else}
 use Rattle.sheet.specs.Conditions.{conditions}

@@ -2,7 +2,7 @@
 #![tactic(auto)]
 
 ghost use Rattle.std.specs.Prelude.{◌≡◌, ◌+◌, ◌≤◌, ◌<◌, length};
-ghost use Rattle.sheet.specs.declared.Verdict.TheVariants.{Passes};
+ghost use Rattle.sheet.specs.Verdicts.{Passes};
 ghost use Rattle.sheet.specs.Format.{lot_count};
 ghost use Rattle.sheet.specs.Conditions.{conditions};
 ghost use Rattle.equality.specs.Search.{search_tree};

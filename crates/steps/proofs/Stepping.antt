@@ -11,8 +11,7 @@ use lib.ListN.{length}
 use Rattle.sheet.specs.Format.{lowest_lot, lot_count, condition_count}
 use Rattle.sheet.specs.Checks.{lot_in_range}
 use Rattle.sheet.specs.Conditions.{same}
-use Rattle.sheet.specs.declared.Verdict.{Verdict}
-use Rattle.sheet.specs.declared.Verdict.TheVariants.{Passes, Refuses}
+use Rattle.sheet.specs.Verdicts.{Verdict, Passes, Refuses}
 use Rattle.limit.specs.Meaning.{Limit, unlimited, up_to}
 use Rattle.limit.specs.Rule.{clique_passes}
 use Rattle.limit.specs.Scan.{limit_of}

@@ -1,8 +1,8 @@
 -- The steps of the walk, for the contracts of the code; this file states nothing of document 01.
 use Rattle.std.specs.Prelude.{ℕ, ◌*◌, ◌≤◌, ◌<◌, Bool, true, false, List, [], ◌∷◌, ◌≡◌, length}
 use Rattle.sheet.specs.declared.Header.{Header}
-use Rattle.sheet.specs.declared.Verdict as verdicts
-use Rattle.sheet.specs.declared.Verdict.TheVariants as verdict
+use Rattle.sheet.specs.Verdicts as verdicts
+use Rattle.sheet.specs.Verdicts as verdict
 use Rattle.sheet.specs.Format.{lot_count}
 use Rattle.sheet.specs.Inner.{HasConditions}
 use Rattle.store.specs.Records.{NodeRecord}

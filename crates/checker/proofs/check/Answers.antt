@@ -1,6 +1,6 @@
 -- `checker::check`: the reader's refusal, the length's, or the walk's verdict.
 use mathlib.Core.Path.{sym, subst, ◌∙◌}
-use Rattle.sheet.specs.declared.Verdict.TheVariants.{Refuses}
+use Rattle.sheet.specs.Verdicts.{Refuses}
 use Rattle.sheet.proofs.Readings.{ReadAs, read_accepts, read_refuses}
 use Rattle.limit.specs.Meaning.{unlimited}
 use Rattle.limit.proofs.Range.{none_admitted}

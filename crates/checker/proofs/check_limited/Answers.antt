@@ -2,7 +2,7 @@
 use mathlib.Core.Bool.{false}
 use mathlib.Core.Path.{◌≡◌, sym, ap, subst, ◌∙◌}
 use Rattle.sheet.specs.Format.{lowest_lot}
-use Rattle.sheet.specs.declared.Verdict.TheVariants.{Refuses}
+use Rattle.sheet.specs.Verdicts.{Refuses}
 use Rattle.sheet.proofs.Readings.{ReadAs, read_accepts, read_refuses}
 use Rattle.limit.specs.Meaning.{Limit, up_to, ill_limited}
 use Rattle.refutation.specs.Refutation.{walk_verdict}

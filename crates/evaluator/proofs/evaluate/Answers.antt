@@ -2,7 +2,7 @@
 use Prim.Native.Nat.{ℕ}
 use mathlib.Core.Path.{sym, ap, ◌∙◌}
 use native.Mathlib.Omega.{arith}
-use Rattle.sheet.specs.declared.Verdict.TheVariants.{Passes, Refuses}
+use Rattle.sheet.specs.Verdicts.{Passes, Refuses}
 use Rattle.sheet.specs.Answers.{reading_answer}
 use Rattle.sheet.proofs.Readings.{ReadAs, read_accepts, read_refuses}
 use Rattle.equality.proofs.Checked.{sheet-refused, grouping-short, all_pass}

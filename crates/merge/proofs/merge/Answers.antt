@@ -1,6 +1,6 @@
 -- `merge::merge`: the first sheet is refused, or the second decides.
 use mathlib.Core.Path.{refl, sym, ap, ◌∙◌}
-use Rattle.sheet.specs.declared.Verdict.TheVariants.{Refuses}
+use Rattle.sheet.specs.Verdicts.{Refuses}
 use Rattle.sheet.specs.Answers.{reading_answer}
 use Rattle.sheet.proofs.Readings.{ReadAs, read_accepts, read_refuses}
 use Rattle.repeats.specs.Repeats.{has_terms}

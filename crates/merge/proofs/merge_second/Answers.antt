@@ -1,7 +1,7 @@
 -- `merge::merge_second`: the second sheet is refused, or both are accepted.
 use Prim.Native.Nat.{max}
 use mathlib.Core.Path.{◌≡◌, refl, sym, ap, ap₂, ◌∙◌}
-use Rattle.sheet.specs.declared.Verdict.TheVariants.{Refuses}
+use Rattle.sheet.specs.Verdicts.{Refuses}
 use Rattle.sheet.specs.Answers.{reading_answer}
 use Rattle.sheet.proofs.Readings.{ReadAs, read_accepts, read_refuses}
 use Rattle.repeats.specs.Repeats.{has_terms}

@@ -4,7 +4,7 @@ use mathlib.Core.Bool.{false}
 use mathlib.Core.List.{List}
 use mathlib.Core.Path.{◌≡◌, refl, sym, ap, ◌∙◌}
 use native.Mathlib.Omega.{arith}
-use Rattle.sheet.specs.declared.Verdict.TheVariants.{Passes}
+use Rattle.sheet.specs.Verdicts.{Passes}
 use Rattle.sheet.specs.Format.{lot_count}
 use Rattle.sheet.specs.Answers.{reading_answer, refused}
 use Rattle.sheet.proofs.Accepted.{sound}

@@ -4,7 +4,7 @@ use mathlib.Core.Bool.{false}
 use mathlib.Core.List.{List}
 use mathlib.Core.Path.{◌≡◌, refl, sym, ap, ap₂, ◌∙◌}
 use native.Mathlib.Omega.{arith}
-use Rattle.sheet.specs.declared.Verdict.{Verdict}
+use Rattle.sheet.specs.Verdicts.{Verdict}
 use Rattle.sheet.specs.Format.{condition_count}
 use Rattle.sheet.specs.Answers.{answered, answer_of}
 use Rattle.sheet.proofs.Accepted.{sound}

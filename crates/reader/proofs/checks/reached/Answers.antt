@@ -1,5 +1,4 @@
 -- `reader::checks::reached` meets its contract. The loop's invariant: each record before the present one is vacant or flagged.
--- The measure is how many records are left.
 use Prim.Native.Nat.{ℕ, ◌≤◌}
 use mathlib.Core.Bool.{Bool, not, ◌||◌}
 use mathlib.Core.List.{List}
@@ -33,6 +32,14 @@ pub loop-r-preserved : goal.loop-r-preserved
 loop-r-preserved c =
     let in_range : c.loop-r.r ≤ record_count c.args.sheet.now = omega (arith, records-counted c.requires.header) in
     passed c.loop-r.invariant (in_range) (sym c.left_out.ensures ∙ c.if-left_out.false)
+
+-- After the last record.
+pub returns-else-left_out : goal.returns-else-left_out
+unfolding unflagged_verdict
+returns-else-left_out c =
+    let in_range : c.loop-r.r ≤ record_count c.args.sheet.now = omega (arith, records-counted c.requires.header) in
+    end (passed c.loop-r.invariant (in_range) (sym c.left_out.ensures ∙ c.if-left_out.false))
+    (omega (arith, records-counted c.requires.header))
 
 pub returns : goal.returns
 unfolding unflagged_verdict

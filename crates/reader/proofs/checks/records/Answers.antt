@@ -1,5 +1,4 @@
 -- `reader::checks::records` meets its contract. The loop's invariant: each record before the present one is vacant or well formed.
--- The measure is how many records are left.
 use Prim.Native.Nat.{ℕ, ◌≤◌}
 use mathlib.Core.Bool.{Bool, not, ◌||◌}
 use mathlib.Core.List.{List}
@@ -34,6 +33,14 @@ pub loop-r-preserved : goal.loop-r-preserved
 loop-r-preserved c =
     let in_range : c.loop-r.r ≤ record_count c.args.sheet.now = omega (arith, records-counted c.requires) in
     passed c.loop-r.invariant (in_range) (ap not (sym c.vacant_or_formed.ensures) ∙ c.if-not-vacant_or_formed.false-raw)
+
+-- After the last record.
+pub returns-else-not-vacant_or_formed : goal.returns-else-not-vacant_or_formed
+unfolding check5
+returns-else-not-vacant_or_formed c =
+    let in_range : c.loop-r.r ≤ record_count c.args.sheet.now = omega (arith, records-counted c.requires) in
+    end (passed c.loop-r.invariant (in_range) (ap not (sym c.vacant_or_formed.ensures) ∙ c.if-not-vacant_or_formed.false-raw))
+    (omega (arith, records-counted c.requires))
 
 pub returns : goal.returns
 unfolding check5

@@ -1,0 +1,40 @@
+-- A refusal's number and place tell which it is.
+use Rattle.std.specs.Prelude.{Result, Err, IsErrAnd}
+use Rattle.std.proofs.lemmas.Result.{err_from_is_err_and}
+use mathlib.Core.Path.{◌≡◌, refl, ap, ◌∙◌}
+use Rattle.sheet.specs.declared.refusal.Refusal.{Refusal}
+use Rattle.sheet.specs.declared.refusal.Refusal.TheVariants.{ShortHeader, TooManyLots, TooManyConditions, TooManyRecords, WrongLength, HeadTooHigh, IllFormed, ReachedTwice, NeverReached, VacantReached, ShortGrouping, FullStore, ShortForPacked, ShortForMerged, IllSized, NoSuchRecord, LeafStands, WrongNext, WrongEnd, TooDeep, TooManyMergedConditions, TooManyMergedRecords, NoSuchLimit, NoSuchLot, WrongCount}
+use Rattle.sheet.specs.Refusals.{check_of, place_of, refusal_at}
+
+pub refusal_at-numbers : (r : Refusal) → refusal_at (check_of r) (place_of r) ≡ r
+refusal_at-numbers ShortHeader = refl
+refusal_at-numbers TooManyLots = refl
+refusal_at-numbers TooManyConditions = refl
+refusal_at-numbers TooManyRecords = refl
+refusal_at-numbers WrongLength = refl
+refusal_at-numbers (HeadTooHigh c) = refl
+refusal_at-numbers (IllFormed r) = refl
+refusal_at-numbers (ReachedTwice r) = refl
+refusal_at-numbers (NeverReached r) = refl
+refusal_at-numbers (VacantReached r) = refl
+refusal_at-numbers (ShortGrouping n) = refl
+refusal_at-numbers (FullStore n) = refl
+refusal_at-numbers (ShortForPacked n) = refl
+refusal_at-numbers (ShortForMerged n) = refl
+refusal_at-numbers IllSized = refl
+refusal_at-numbers (NoSuchRecord n) = refl
+refusal_at-numbers (LeafStands n) = refl
+refusal_at-numbers (WrongNext n) = refl
+refusal_at-numbers (WrongEnd n) = refl
+refusal_at-numbers (TooDeep n) = refl
+refusal_at-numbers TooManyMergedConditions = refl
+refusal_at-numbers TooManyMergedRecords = refl
+refusal_at-numbers (NoSuchLimit n) = refl
+refusal_at-numbers (NoSuchLot n) = refl
+refusal_at-numbers (WrongCount n) = refl
+
+-- What the exit of a `?` returns that passes a refusal on.
+pub passed_on_is : {A : Type 0} {e : Refusal} {r : Result A Refusal} → IsErrAnd r (λ y. y ≡ e) → r ≡ Err e
+passed_on_is {A} {e} {r} h =
+    let p = err_from_is_err_and r h in
+    p.1 ∙ ap Err p.2
