@@ -1,7 +1,7 @@
 -- A refusal's number and place tell which it is.
-use Rattle.std.specs.Prelude.{Result, Err, IsErrAnd}
+use Rattle.std.specs.Prelude.{Result, Ok, Err, IsErrAnd, MatchResult}
 use Rattle.std.proofs.lemmas.Result.{err_from_is_err_and}
-use mathlib.Core.Path.{◌≡◌, refl, ap, ◌∙◌}
+use mathlib.Core.Path.{◌≡◌, refl, ap, subst, ◌∙◌}
 use Rattle.sheet.specs.declared.refusal.Refusal.{Refusal}
 use Rattle.sheet.specs.declared.refusal.Refusal.TheVariants.{ShortHeader, TooManyLots, TooManyConditions, TooManyRecords, WrongLength, HeadTooHigh, IllFormed, ReachedTwice, NeverReached, VacantReached, ShortGrouping, FullStore, ShortForPacked, ShortForMerged, IllSized, NoSuchRecord, LeafStands, WrongNext, WrongEnd, TooDeep, TooManyMergedConditions, TooManyMergedRecords, NoSuchLimit, NoSuchLot, WrongCount}
 use Rattle.sheet.specs.Refusals.{check_of, place_of, refusal_at}
@@ -33,8 +33,21 @@ refusal_at-numbers (NoSuchLimit n) = refl
 refusal_at-numbers (NoSuchLot n) = refl
 refusal_at-numbers (WrongCount n) = refl
 
--- What the exit of a `?` returns that passes a refusal on.
-pub passed_on_is : {A : Type 0} {e : Refusal} {r : Result A Refusal} → IsErrAnd r (λ y. y ≡ e) → r ≡ Err e
-passed_on_is {A} {e} {r} h =
+-- What the exit of a `?` returns that passes an error on,
+pub passed_on_is : {A E : Type 0} {e : E} {r : Result A E} → IsErrAnd r (λ y. y ≡ e) → r ≡ Err e
+passed_on_is {A} {E} {e} {r} h =
     let p = err_from_is_err_and r h in
     p.1 ∙ ap Err p.2
+
+-- and what `map_err` was given, by what it gives.
+module _ {A E D : Type 0} (P : E → D → Type 0) where
+  pub mapped-ok : (r : Result A E) {q : Result A D} {x : A} → MatchResult r (λ y. q ≡ Ok y) (λ e. IsErrAnd q (P e)) → q ≡ Ok x → r ≡ Ok x
+  mapped-ok (Ok y) h e = cc
+  mapped-ok (Err d) {q} h e = let p = err_from_is_err_and q h in let same = p.1 in cc
+
+  pub mapped-err : (r : Result A E) {q : Result A D} {d : D} → MatchResult r (λ y. q ≡ Ok y) (λ e. IsErrAnd q (P e)) → q ≡ Err d → (e : E) × (r ≡ Err e) × P e d
+  mapped-err (Ok y) h e = cc
+  mapped-err (Err x) {q} {d} h e =
+      let p = err_from_is_err_and q h in
+      let same : p.0 ≡ d = let other = p.1 in cc in
+      (x, refl, subst (P x) same p.2)
