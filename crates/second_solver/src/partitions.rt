@@ -8,7 +8,7 @@
 ghost use Rattle.std.specs.Prelude.{◌≤◌};
 ghost use Rattle.second_solver.specs.declared.partitions.TheConstants.{MOST_LOTS};
 
-use crate::sheet::Sheet;
+use crate::sheet::{MOST_RECORDS, Sheet};
 use raw::Record;
 
 // The most lots that are parted, and in how many ways.
@@ -16,7 +16,8 @@ const MOST_LOTS: usize = 6;
 
 const WAYS: u16 = 203;
 
-// The lots that a sheet's terms name, each once.
+// The lots that a sheet's terms name, each once. A count stands beside their places, since a Vec would ask each caller for memory, and a library's list of fixed
+// size would be code that this shares with others.
 #[derive(Clone, Copy)]
 struct Names {
     lots: [u16; MOST_LOTS],
@@ -75,10 +76,10 @@ impl Way {
         equal == (term.kind == 1)
     }
 
-    // Whether some term of a condition is true. A chain has at most 1,024 terms.
+    // Whether some term of a condition is true.
     fn makes_some_true(&self, sheet: Sheet, head: u16) -> bool {
         let mut r = head;
-        for _ in 0..1024 {
+        for _ in 0..MOST_RECORDS {
             if r == 0 {
                 return false;
             }

@@ -1,6 +1,9 @@
 // A sheet's bytes, with the numbers of its header beside them.
 use raw::Record;
 
+// The most records of a sheet, and so of a chain.
+pub const MOST_RECORDS: u16 = 1024;
+
 #[derive(Clone, Copy)]
 pub struct Sheet<'a> {
     pub bytes: &'a [u8],

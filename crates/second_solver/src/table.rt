@@ -1,11 +1,8 @@
 // Checks 1 to 8 and 17, stated a second time: from document 01's table and document 02's second and fifth requests, over the bytes as they stand. It has
 // nothing in common with the reader.
 use crate::Refusal;
-use crate::sheet::Sheet;
+use crate::sheet::{MOST_RECORDS, Sheet};
 use raw::Record;
-
-// The most records of a sheet.
-const MOST_RECORDS: usize = 1024;
 
 // Which records are reached: place r is set once record r is. Place 0 is no record's.
 type Reached = [bool; 1025];
@@ -15,7 +12,7 @@ fn refuse(check: u32, place: Option<u16>) -> Result<(), Refusal> {
     match place {
         Some(place) => Err(Refusal {
             check,
-            place: place as u32,
+            place: u32::from(place),
         }),
         None => Ok(()),
     }
@@ -88,7 +85,7 @@ fn checked(sheet: Sheet, room: u16) -> Result<(), Refusal> {
     refuse(1, (sheet.bytes.len() < 6).then_some(0))?;
     refuse(2, (128 < sheet.lots).then_some(1))?;
     refuse(2, (256 < sheet.conditions).then_some(2))?;
-    refuse(2, (1024 < sheet.records).then_some(3))?;
+    refuse(2, (MOST_RECORDS < sheet.records).then_some(3))?;
     refuse(3, (sheet.bytes.len() != length).then_some(0))?;
     refuse(4, head_above(sheet))?;
     refuse(5, out_of_range(sheet))?;
@@ -102,12 +99,7 @@ fn checked(sheet: Sheet, room: u16) -> Result<(), Refusal> {
 pub fn agrees(bytes: &[u8], room: u16, refusal: Option<Refusal>) -> bool {
     let stated = checked(Sheet::of(bytes), room).err();
     match refusal {
-        Some(
-            Refusal {
-                check: 1..=8 | 17,
-                ..
-            },
-        ) => stated == refusal,
+        Some(given) if matches!(given.check, 1..=8 | 17) => stated == refusal,
         _ => stated.is_none(),
     }
 }
