@@ -45,7 +45,7 @@ impl State {
     }
 }
 
-// A sheet in the making: how many conditions it gets, what lots its terms name, the records so far, and the generator's state.
+// A sheet in the making, whose header has m already: how many conditions it gets, what lots its terms name, the records so far, and the generator's state.
 #[derive(Drop)]
 struct Draft<'a> {
     sheet: &'a mut [u8],
@@ -89,7 +89,7 @@ impl Draft<'_> {
             self.add_term(left == 0);
         }
         if self.next().below(6) == 0 {
-            blanks::withdraw(self.sheet, self.m, c);
+            blanks::withdraw(self.sheet, c);
         }
     }
 }
@@ -128,7 +128,7 @@ pub fn relinked(sheet: &mut [u8], state: u64) -> u64 {
     let from = blanked.following();
     let to = from.following();
     if way.below(3) != 0 {
-        blanks::blank(sheet, m, blanked.from_one(k));
+        blanks::blank(sheet, blanked.from_one(k));
     }
     if way.below(3) != 1 {
         raw::put_number(

@@ -63,12 +63,11 @@ pub fn sheets(sheet: &[u8], list: &[u8], damage: &mut Damage) {
 // The condition that has c before it in three ways one after the other: its head zero while its records are left; withdrawn; its records vacant, and its head
 // put back, so that its chain reaches a vacant record.
 fn withdraw(sheet: &mut [u8], list: &[u8], c: u16, damage: &mut Damage) {
-    let m = raw::number_at(sheet, 2);
     let head = raw::number_at(sheet, raw::head_field(c));
     raw::put_number(sheet, raw::head_field(c), 0);
     examine(sheet, list, damage);
     raw::put_number(sheet, raw::head_field(c), head);
-    blanks::withdraw(sheet, m, c);
+    blanks::withdraw(sheet, c);
     examine(sheet, list, damage);
     raw::put_number(sheet, raw::head_field(c), head);
     examine(sheet, list, damage);
