@@ -4,6 +4,7 @@ use raw::Record;
 // One byte more than the longest sheet has, so that a sheet can be too long.
 const ROOM: usize = 8711;
 
+// The length stands beside the bytes, since a change of it moves none: what is cut off is there again where a later change lengthens the sheet.
 #[derive(Clone, Copy)]
 pub struct Sheet {
     bytes: [u8; ROOM],

@@ -22,10 +22,7 @@ pub fn checked(sheet: &[u8], list: &[u8]) -> Result<(), Refusal> {
 }
 
 fn is_met_by(sheet: &[u8], grouping: &[u8]) -> bool {
-    match evaluator::evaluate(sheet, grouping) {
-        Evaluation::AllMet => true,
-        _ => false,
-    }
+    matches!(evaluator::evaluate(sheet, grouping), Evaluation::AllMet)
 }
 
 fn is_refuted_by(sheet: &[u8], store: &[u8], count: u32) -> bool {
