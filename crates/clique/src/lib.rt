@@ -20,13 +20,6 @@ pub struct First {
     pub end: usize,
 }
 
-// The first pair of classes that aren't marked apart, the lower first; or that there is none, and they are a clique.
-#[derive(Clone, Copy)]
-pub enum Found {
-    Open(Lot, Lot),
-    Clique,
-}
-
 // The highest limit.
 const MOST_LIMIT: u32 = 129;
 
@@ -116,8 +109,8 @@ fn unmarked_behind(list: &[u8], bytes: &[u8], table: usize, low: usize) -> usize
     list.len()
 }
 
-// The first pair of a list's classes that aren't marked apart.
-fn first_listed(list: &[u8], bytes: &[u8], table: usize) -> Found
+// The first pair of a list's classes that aren't marked apart, the lower first; none where they are a clique.
+fn first_listed(list: &[u8], bytes: &[u8], table: usize) -> Option<(Lot, Lot)>
     requires { Listed list.now × Room bytes.now table }
     ensures { found_as result ≡ clique_or_split (mark_at bytes.now table) list.now }
 {
@@ -125,16 +118,22 @@ fn first_listed(list: &[u8], bytes: &[u8], table: usize) -> Found
     while low < list.len() {
         let high = unmarked_behind(list, bytes, table, low);
         if high < list.len() {
-            return Found::Open(Lot(list[low] as u16), Lot(list[high] as u16));
+            return Some((Lot(list[low] as u16), Lot(list[high] as u16)));
         }
         low += 1;
     }
-    Found::Clique
+    None
 }
 
 // The first pair of the classes from lot `from` on and below lot `end` that aren't marked apart. The classes are listed first, so that their pairs cost no more
 // than their square, however many lots stand between them.
-fn first_among(lots: &[u8], bytes: &[u8], table: usize, from: usize, end: usize) -> Found
+fn first_among(
+    lots: &[u8],
+    bytes: &[u8],
+    table: usize,
+    from: usize,
+    end: usize,
+) -> Option<(Lot, Lot)>
     requires { ClassMap lots.now × Room bytes.now table × (end ≤ suc most_lots) }
     ensures { found_as result ≡ clique_or_split (mark_at bytes.now table) (classes_from lots.now end from) }
 {
@@ -143,20 +142,27 @@ fn first_among(lots: &[u8], bytes: &[u8], table: usize, from: usize, end: usize)
     first_listed(&list[..count], bytes, table)
 }
 
-// The first pair of classes below lot `end` that aren't marked apart, from the lots x and y on: the pairs of x lot by lot, since most often one of them is found,
-// and then those of the classes behind it.
-pub fn first_open(lots: &[u8], bytes: &[u8], table: usize, x: usize, y: usize, end: usize) -> Found
+// The first pair of classes below lot `end` that aren't marked apart, the lower first, from the lots x and y on; none where they are a clique. The pairs of x are
+// looked at lot by lot, since most often one of them is found, and then those of the classes behind it.
+pub fn first_open(
+    lots: &[u8],
+    bytes: &[u8],
+    table: usize,
+    x: usize,
+    y: usize,
+    end: usize,
+) -> Option<(Lot, Lot)>
     requires { ClassMap lots.now × Room bytes.now table × (x ≤ y) × (end ≤ suc most_lots) }
     ensures { found_as result ≡ pairs_at (mark_at bytes.now table) lots.now end x y }
 {
     if end <= x {
-        return Found::Clique;
+        return None;
     }
     let class = lots[x];
     if (class as usize) == x {
         let high = unmarked_with(lots, bytes, table, class, y, end);
         if high < end {
-            return Found::Open(Lot(x as u16), Lot(high as u16));
+            return Some((Lot(x as u16), Lot(high as u16)));
         }
     }
     first_among(lots, bytes, table, x + 1, end)

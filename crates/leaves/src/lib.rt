@@ -15,7 +15,6 @@ ghost use Rattle.classes.specs.Maps.{ClassMap};
 ghost use Rattle.marks.specs.Marks.{Room, Marks, mark_at};
 ghost use Rattle.leaves.specs.Terms.{allows, allows_classes, latest_between};
 
-use clique::Found;
 use sheet::{Condition, Record, SAME};
 
 // The table of the path: the classes of each pair that it sets apart are marked, and no others.
@@ -176,9 +175,5 @@ pub fn clique_passes(
         return false;
     }
     stamp(table, path, depth, lots);
-    let found = clique::first_open(lots, table, 0, 0, 1, first.end);
-    match found {
-        Found::Open(_, _) => false,
-        Found::Clique => true,
-    }
+    clique::first_open(lots, table, 0, 0, 1, first.end).is_none()
 }

@@ -16,7 +16,6 @@ ghost use Rattle.scan.specs.Place.{ResumesWithin, Stands, PlaceWithin, Rises};
 ghost use Rattle.node.specs.Found.{Markable, node_as, untaken_as, split_on, TermLeaves, PairSplit, apart_place, PairLeaves};
 
 use classes::Classes;
-use clique::Found;
 use scan::Place;
 use sheet::{Condition, Lot, Record, SAME, Term};
 
@@ -198,13 +197,13 @@ fn under_limit(
     marks::stamp_pairs(pairs, place, &map.lots, count);
     let found = clique::first_open(&map.lots, pairs, place, x, y, first.end);
     match found {
-        Found::Open(low, high) => Untaken::Split(Split {
+        Some((low, high)) => Untaken::Split(Split {
             condition: Condition(0),
             a: low,
             b: high,
             after: Record(0),
         }),
-        Found::Clique => Untaken::Clique,
+        None => Untaken::Clique,
     }
 }
 
