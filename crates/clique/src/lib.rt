@@ -1,15 +1,15 @@
 // Which limits can be asked for, the classes that one looks at, and their pairs: by a class map and a table of marks, from any pair on.
 #![tactic(auto)]
 
-ghost use Rattle.std.specs.Prelude.{◌≡◌, cond, suc, ◌≤◌, ◌<◌, ltb, length, take, drop};
+ghost use Rattle.std.specs.Prelude.{◌≡◌, suc, ◌≤◌, length, take};
 ghost use Rattle.sheet.specs.Format.{most_lots};
-ghost use Rattle.equality.specs.Node.{Node, split, class_of};
+ghost use Rattle.equality.specs.Node.{Node};
 ghost use Rattle.limit.specs.Meaning.{ill_limited};
 ghost use Rattle.limit.specs.Rule.{smallest_from, split_with, clique_or_split};
 ghost use Rattle.limit.specs.Scan.{classes_from, classes_up_to, pairs_at};
 ghost use Rattle.classes.specs.Maps.{ClassMap};
 ghost use Rattle.marks.specs.Marks.{Room, mark_at};
-ghost use Rattle.clique.specs.Found.{found_as, Listed};
+ghost use Rattle.clique.specs.Found.{found_as, found_with, Listed};
 
 use sheet::Lot;
 
@@ -43,35 +43,39 @@ pub fn first_classes(lots: &[u8], n: u16, limit: u16) -> First
     ensures count { result.count ≡ length (smallest_from lots.now result.end 0) }
     ensures first { take (suc limit) (classes_up_to lots.now n) ≡ smallest_from lots.now result.end 0 }
 {
-    let last = n as usize;
-    let most = limit as usize;
+    let most = usize::from(limit);
+    let all = usize::from(n) + 1;
     let mut count: usize = 0;
-    let mut end: usize = 0;
-    while end <= last && count <= most {
-        if (lots[end] as usize) == end {
+    for end in 0..all {
+        if most < count {
+            return First { count, end };
+        }
+        if usize::from(lots[end]) == end {
             count += 1;
         }
-        end += 1;
     }
-    First { count, end }
+    First { count, end: all }
 }
 
-// The first class, from lot `from` on and below lot `end`, that isn't marked with the class x; `end` where there is none.
-fn unmarked_with(lots: &[u8], bytes: &[u8], table: usize, x: u8, from: usize, end: usize) -> usize
+// The first class, from lot `from` on and below lot `end`, that isn't marked with the class x.
+fn unmarked_with(
+    lots: &[u8],
+    bytes: &[u8],
+    table: usize,
+    x: u8,
+    from: usize,
+    end: usize,
+) -> Option<u8>
     requires { ClassMap lots.now × Room bytes.now table × (x ≤ most_lots) × (end ≤ suc most_lots) }
-    ensures { (others : Node) → split_with (mark_at bytes.now table) x (classes_from lots.now end from) others ≡ cond (ltb result end) (split x result) others }
+    ensures { (others : Node) → split_with (mark_at bytes.now table) x (classes_from lots.now end from) others ≡ found_with x result others }
 {
-    let mut y = from;
-    while y < end {
+    for y in from..end {
         let class = lots[y];
-        if (class as usize) == y {
-            if !marks::is_marked(bytes, table, x, class) {
-                return y;
-            }
+        if usize::from(class) == y && !marks::is_marked(bytes, table, x, class) {
+            return Some(class);
         }
-        y += 1;
     }
-    end
+    None
 }
 
 // Writes the classes from lot `from` on and below lot `end` into a list, each by its smallest lot, rising, and answers how many there are.
@@ -81,32 +85,27 @@ fn list_classes(lots: &[u8], from: usize, end: usize, list: &mut [u8]) -> usize
     ensures listed { take result list.new ≡ classes_from lots.now end from }
 {
     let mut count: usize = 0;
-    let mut lot = from;
-    while lot < end {
+    for lot in from..end {
         let class = lots[lot];
-        if (class as usize) == lot {
+        if usize::from(class) == lot {
             list[count] = class;
             count += 1;
         }
-        lot += 1;
     }
     count
 }
 
-// The first class of a list, behind the one at place `low`, that isn't marked with that one: its place, or the list's length where there is none.
-fn unmarked_behind(list: &[u8], bytes: &[u8], table: usize, low: usize) -> usize
-    requires { Listed list.now × Room bytes.now table × (low < length list.now) }
-    ensures { (others : Node) → split_with (mark_at bytes.now table) (class_of list.now low) (drop (suc low) list.now) others
-        ≡ cond (ltb result (length list.now)) (split (class_of list.now low) (class_of list.now result)) others }
+// The first class of a list that isn't marked with the class x.
+fn unmarked_in(list: &[u8], bytes: &[u8], table: usize, x: u8) -> Option<u8>
+    requires { Listed list.now × Room bytes.now table × (x ≤ most_lots) }
+    ensures { (others : Node) → split_with (mark_at bytes.now table) x list.now others ≡ found_with x result others }
 {
-    let mut high = low + 1;
-    while high < list.len() {
-        if !marks::is_marked(bytes, table, list[low], list[high]) {
-            return high;
+    for y in list {
+        if !marks::is_marked(bytes, table, x, *y) {
+            return Some(*y);
         }
-        high += 1;
     }
-    list.len()
+    None
 }
 
 // The first pair of a list's classes that aren't marked apart, the lower first; none where they are a clique.
@@ -114,13 +113,10 @@ fn first_listed(list: &[u8], bytes: &[u8], table: usize) -> Option<(Lot, Lot)>
     requires { Listed list.now × Room bytes.now table }
     ensures { found_as result ≡ clique_or_split (mark_at bytes.now table) list.now }
 {
-    let mut low: usize = 0;
-    while low < list.len() {
-        let high = unmarked_behind(list, bytes, table, low);
-        if high < list.len() {
-            return Some((Lot(list[low] as u16), Lot(list[high] as u16)));
+    for (low, x) in list.iter().enumerate() {
+        if let Some(y) = unmarked_in(&list[low + 1..], bytes, table, *x) {
+            return Some((Lot(u16::from(*x)), Lot(u16::from(y))));
         }
-        low += 1;
     }
     None
 }
@@ -159,10 +155,9 @@ pub fn first_open(
         return None;
     }
     let class = lots[x];
-    if (class as usize) == x {
-        let high = unmarked_with(lots, bytes, table, class, y, end);
-        if high < end {
-            return Some((Lot(x as u16), Lot(high as u16)));
+    if usize::from(class) == x {
+        if let Some(high) = unmarked_with(lots, bytes, table, class, y, end) {
+            return Some((Lot(u16::from(class)), Lot(u16::from(high))));
         }
     }
     first_among(lots, bytes, table, x + 1, end)
