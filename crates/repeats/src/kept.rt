@@ -71,10 +71,7 @@ fn repeats_between(
     ensures { result ≡ repeats (terms_from sheet.now condition.head.0)
         (kept_of other.now (slice from upto entries.now)) }
 {
-    let mut i = from;
-    while i < upto {
-        let entry = entries[i];
-        i += 1;
+    for &entry in &entries[from..upto] {
         if digest_in(entry) != condition.digest {
             continue;
         }
@@ -120,9 +117,7 @@ fn gather(first: &[u8], m1: u16, from: usize, second: &[u8], m2: u16, entries: &
 {
     let mut upto = from;
     let mut terms: u16 = 0;
-    let mut c: u16 = 0;
-    while c < m2 {
-        c += 1;
+    for c in 1..=m2 {
         let condition = chains::condition_at(second, m2, Condition(c));
         if left_out(first, m1, from, second, m2, condition, entries, upto) {
             continue;
@@ -164,11 +159,8 @@ pub fn add(
         ≡ with_conditions (kept_of sheet.now (slice from upto entries.now)) (draft out.old w) }
 {
     let mut next = w;
-    let mut i = from;
-    while i < upto {
-        let c = number_in(entries[i]);
-        next = writer::add_condition(sheet, m, c, out, next);
-        i += 1;
+    for &entry in &entries[from..upto] {
+        next = writer::add_condition(sheet, m, number_in(entry), out, next);
     }
     next
 }
