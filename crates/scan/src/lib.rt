@@ -90,11 +90,8 @@ pub fn settle(levels: &mut [u16], c: Condition, level: u16)
 pub fn clear_above(levels: &mut [u16], level: u16)
     ensures { ClearedAbove levels.old levels.new level }
 {
-    let mut i: usize = 0;
-    while i < levels.len() {
-        let old = levels[i];
-        levels[i] = if level < old { 0 } else { old };
-        i += 1;
+    for noted in levels.iter_mut() {
+        *noted = if level < *noted { 0 } else { *noted };
     }
 }
 
