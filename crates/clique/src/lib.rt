@@ -113,9 +113,11 @@ fn first_listed(list: &[u8], bytes: &[u8], table: usize) -> Option<(Lot, Lot)>
     requires { Listed list.now × Room bytes.now table }
     ensures { found_as result ≡ clique_or_split (mark_at bytes.now table) list.now }
 {
-    for (low, x) in list.iter().enumerate() {
-        if let Some(y) = unmarked_in(&list[low + 1..], bytes, table, *x) {
-            return Some((Lot(u16::from(*x)), Lot(u16::from(y))));
+    let mut low: usize = 0;
+    while low < list.len() {
+        let high = unmarked_behind(list, bytes, table, low);
+        if high < list.len() {
+            return Some((Lot(list[low] as u16), Lot(list[high] as u16)));
         }
     }
     None
@@ -155,9 +157,10 @@ pub fn first_open(
         return None;
     }
     let class = lots[x];
-    if usize::from(class) == x {
-        if let Some(high) = unmarked_with(lots, bytes, table, class, y, end) {
-            return Some((Lot(u16::from(class)), Lot(u16::from(high))));
+    if (class as usize) == x {
+        let high = unmarked_with(lots, bytes, table, class, y, end);
+        if high < end {
+            return Some((Lot(x as u16), Lot(high as u16)));
         }
     }
     first_among(lots, bytes, table, x + 1, end)
