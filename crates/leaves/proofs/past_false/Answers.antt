@@ -17,7 +17,7 @@ use Rattle.leaves.specs.Terms.{allows, allows_classes}
 use Rattle.leaves.proofs.Splits.{decided, found_marks, found_within}
 use Rattle.leaves.proofs.Grounds.{allows_term}
 use Rattle.leaves.proofs.past_false.Goals as goal
-use Rattle.leaves.proofs.past_false.Goals.{then-t-eq-SAME+else-x-y+else-walked-gt-WALKED+else-left-eq0, else-t-eq-SAME+else-x-y-2}
+use Rattle.leaves.proofs.past_false.Goals.{then-t-eq-SAME+else-x-y+else-walked-gt-WALKED+in-Some, else-t-eq-SAME+else-x-y-2}
 
 -- The path's marks.
 abbrev marks : List ℕ → List ℕ → ℕ → ℕ → ℕ → Bool
@@ -68,12 +68,14 @@ bounds-lots-t-in-loop-at c =
 pub returns-then-x-y-clause-rest : goal.returns-then-x-y-clause-rest
 returns-then-x-y-clause-rest c = left_decides _ c.args.sheet.now c.requires.0.accepted c.args.head.0 c.loop-at.at.0 c.loop-at.invariant
 
-pub returns-then-left-eq0-clause-rest : goal.returns-then-left-eq0-clause-rest
-returns-then-left-eq0-clause-rest c = left_decides _ c.args.sheet.now c.requires.0.accepted c.args.head.0 c.loop-at.at.0 c.loop-at.invariant
+pub returns-in-None-clause-rest : goal.returns-in-None-clause-rest
+returns-in-None-clause-rest c = left_decides _ c.args.sheet.now c.requires.0.accepted c.args.head.0 c.loop-at.at.0 c.loop-at.invariant
 
 pub overflow_sub-walked : goal.overflow_sub-walked
-overflow_sub-walked c =
-    found_within _ _ _ _ _ _ c.latest_between-left.ensures
+overflow_sub-walked c = omega (arith, found_within _ _ _ _ _ _ c.in-Some.ensures)
+
+pub overflow_sub-walked-in-Some : goal.overflow_sub-walked-in-Some
+overflow_sub-walked-in-Some c = omega (arith, found_within _ _ _ _ _ _ c.in-Some.ensures)
 
 pub returns-then-x-y-2-clause-rest : goal.returns-then-x-y-2-clause-rest
 returns-then-x-y-2-clause-rest c = left_decides _ c.args.sheet.now c.requires.0.accepted c.args.head.0 c.loop-at.at.0 c.loop-at.invariant
@@ -91,8 +93,8 @@ loop-at-preserved c =
     answer c.args.sheet.now c.args.lots.now c.args.path.now c.args.m c.args.depth c.args.head.0 c.loop-at.at.0 c.requires.0 (omega arith) c.loop-at.invariant
     term.result term.ensures
     ∙ elim c.if-t-eq-SAME.branch [
-      | then-t-eq-SAME+else-x-y+else-walked-gt-WALKED+else-left-eq0 w ↦
-          simp (eq-eqb term.result.sign same_sign w.if-t-eq-SAME.true, ne_eqb _ _ w.if-x-y.false, found_marks _ _ _ _ _ _ w.latest_between-left.ensures w.if-left-eq0.false)
+      | then-t-eq-SAME+else-x-y+else-walked-gt-WALKED+in-Some w ↦
+          simp (eq-eqb term.result.sign same_sign w.if-t-eq-SAME.true, ne_eqb _ _ w.if-x-y.false, found_marks _ _ _ _ _ _ w.in-Some.ensures)
       | else-t-eq-SAME+else-x-y-2 w ↦ simp (ne_eqb term.result.sign same_sign w.if-t-eq-SAME.false, eq-eqb _ _ w.if-x-y-2.false)
     ] in
     rw c.term_at-t.ensures
