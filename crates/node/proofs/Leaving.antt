@@ -5,8 +5,7 @@ use mathlib.Core.List.{List, ◌∷◌}
 use mathlib.Core.Logic.{◌≢◌}
 use mathlib.Core.Path.{◌≡◌, refl, sym, subst, ◌∙◌}
 use native.Mathlib.Omega.{arith}
-use borrow.Author.Tests.{eq-eqb, ne_eqb}
-use Rattle.sheet.specs.Conditions.{apart, condition_at, conditions}
+use Rattle.sheet.specs.Conditions.{apart, conditions}
 use Rattle.equality.specs.Node.{Decisions, Taken, no_condition, takes, taken, Node, met, ground, split, node}
 use Rattle.limit.specs.Meaning.{Limit, unlimited, up_to}
 use Rattle.limit.specs.Rule.{none_taken, node_under}
@@ -17,10 +16,10 @@ use Rattle.node.specs.declared.Split as pair
 use Rattle.node.specs.declared.Untaken.{Untaken}
 use Rattle.node.specs.declared.Untaken.TheVariants.{Met, Split, Clique}
 use Rattle.scan.specs.declared.Place.{Place}
-use Rattle.scan.specs.Place.{ResumesWithin, ResumesPair, Stands}
-use Rattle.node.specs.Found.{untaken_as, PairSplit, SplitLeaves, PairLeaves}
+use Rattle.scan.specs.declared.Place.TheVariants.{Scan, Within, Nowhere, After}
+use Rattle.scan.specs.Place.{ResumesPair, Resumes, Stands}
+use Rattle.node.specs.Found.{untaken_as, WithinTerm, PairSplit, SplitLeaves, PairLeaves}
 use Rattle.node.proofs.Resuming.{none-met}
-use Rattle.scan.proofs.Settling.{taken-number}
 
 -- A node that stands at a place that is known stands there.
 pub stands : (limit : Limit) (n : ℕ) (s : List ℕ) (ds : Decisions) {p q : Place} → p ≡ q → Stands limit n s p ds → Stands limit n s q ds
@@ -29,10 +28,14 @@ stands limit n s ds e w = subst (λ (p : Place). Stands limit n s p ds) e w
 -- ---- a condition is taken
 
 pub term_leaves : (limit : Limit) (n : ℕ) (s : List ℕ) (ds : Decisions) (on : pair.Split)
-    → ResumesWithin s on.condition.0 on.after.0 (apart on.a.0 on.b.0 ∷ ds) → SplitLeaves limit n s on ds
-term_leaves limit n s ds on leaves =
-    let number = (taken-number (apart on.a.0 on.b.0 ∷ ds) s on.condition.0 (condition_at s on.condition.0) leaves.condition).0 in
-    rw (ne_eqb on.condition.0 0 (λ e. omega arith)) leaves
+    → WithinTerm s on.apart (apart on.a.0 on.b.0 ∷ ds) → SplitLeaves limit n s on ds
+term_leaves limit n s ds on leaves = go on.apart leaves
+  where
+    go : (p : Place) → WithinTerm s p (apart on.a.0 on.b.0 ∷ ds) → Resumes limit n s p (apart on.a.0 on.b.0 ∷ ds)
+    go Scan leaves = absurd leaves
+    go (Within c r) leaves = leaves
+    go Nowhere leaves = absurd leaves
+    go (After x y) leaves = absurd leaves
 
 -- ---- what a node is under a limit, by what it is without one
 
@@ -66,7 +69,7 @@ module _ (limit : Limit) (n : ℕ) (s : List ℕ) (ds : Decisions) where
 pair_leaves : (g n : ℕ) (s : List ℕ) (ds : Decisions) → taken ds 1 (conditions s) ≡ no_condition → (k : Untaken) → PairSplit k
     → untaken_as k ≡ none_taken (up_to g) n ds → PairLeaves (up_to g) n s k ds
 pair_leaves g n s ds none Met pair e = tt
-pair_leaves g n s ds none (Split on) pair e = rw (eq-eqb on.condition.0 0 pair) (pair_resumes ds on.a.0 on.b.0 g n (conditions s) none (sym e))
+pair_leaves g n s ds none (Split on) pair e = rw pair (pair_resumes ds on.a.0 on.b.0 g n (conditions s) none (sym e))
 pair_leaves g n s ds none Clique pair e = tt
 
 -- The node, and what it says of its apart branch, by the number that the code has for the limit: with one,

@@ -13,36 +13,18 @@ ghost use Rattle.classes.specs.Pairs.{Represents};
 ghost use Rattle.marks.specs.Marks.{table_length, Room, Marks, Outside};
 ghost use Rattle.sheet.specs.Inner.{HasConditions, OnChain};
 ghost use Rattle.scan.specs.Place.{ResumesWithin, Stands, PlaceWithin, Rises};
-ghost use Rattle.node.specs.Found.{Markable, node_as, untaken_as, split_on, TermLeaves, PairSplit, apart_place, PairLeaves};
+ghost use Rattle.node.specs.Found.{Markable, node_as, untaken_as, split_on, TermLeaves, PairSplit, PairLeaves};
 
 use classes::Classes;
 use scan::Place;
 use sheet::{Condition, Lot, Record, SAME, Term};
 
-// A split: its condition and its lots, and the record after the term that it splits on, where the apart branch resumes. A split on a pair of classes has
-// condition 0, and its apart branch resumes after the pair.
+// A split: its lots, and where its apart branch goes on: in its condition from the record after the term that it splits on, or after the pair of classes.
 #[derive(Clone, Copy)]
 pub struct Split {
-    pub condition: Condition,
     pub a: Lot,
     pub b: Lot,
-    pub after: Record,
-}
-
-impl Split {
-    // Where the apart branch goes on.
-    pub fn apart_place(self) -> Place
-        ensures { result ≡ apart_place self }
-    {
-        let c = self.condition;
-        if c.0 == 0 {
-            let a = self.a;
-            let b = self.b;
-            return Place::After(a, b);
-        }
-        let after = self.after;
-        Place::Within(c, after)
-    }
+    pub apart: Place,
 }
 
 // What a node is by its conditions: met, where it takes none; otherwise a ground or a split of the condition taken.
@@ -65,14 +47,10 @@ pub enum Untaken {
 fn split_on(condition: Condition, t: Term) -> Node
     ensures { result ≡ split_on condition t }
 {
-    let a = t.a;
-    let b = t.b;
-    let after = t.next;
     Node::Split(Split {
-        condition,
-        a,
-        b,
-        after,
+        a: t.a,
+        b: t.b,
+        apart: Place::Within(condition, t.next),
     })
 }
 
@@ -197,11 +175,10 @@ fn under_limit(
     marks::stamp_pairs(pairs, place, &map.lots, count);
     let found = clique::first_open(&map.lots, pairs, place, x, y, first.end);
     match found {
-        Some((low, high)) => Untaken::Split(Split {
-            condition: Condition(0),
-            a: low,
-            b: high,
-            after: Record(0),
+        Some((a, b)) => Untaken::Split(Split {
+            a,
+            b,
+            apart: Place::After(a, b),
         }),
         None => Untaken::Clique,
     }

@@ -1,12 +1,12 @@
 // Which condition a node takes, and where its terms are looked at: the conditions are scanned, and those that are settled for good are noted.
 #![tactic(auto)]
 
-ghost use Rattle.std.specs.Prelude.{◌≡◌, cond, ℕ, ◌-◌, ◌≤◌, eqb, length, set};
+ghost use Rattle.std.specs.Prelude.{◌≡◌, ℕ};
 ghost use Rattle.equality.specs.Node.{Decisions, classes};
 ghost use Rattle.limit.specs.Meaning.{Limit};
 ghost use Rattle.sheet.specs.Inner.{HasConditions};
 ghost use Rattle.scan.specs.Settled.{Settled, Later, ClearedAbove};
-ghost use Rattle.scan.specs.Place.{Resumes, Stands, PlaceWithin};
+ghost use Rattle.scan.specs.Place.{Resumes, Stands, PlaceWithin, HasLevel, with_level};
 
 use classes::Classes;
 use sheet::{Condition, Lot, Record, SAME};
@@ -76,12 +76,12 @@ pub fn scan(sheet: &[u8], m: u16, map: Classes, levels: &mut [u16], level: u16) 
     }
 }
 
-// Notes that a condition is settled at a level. Condition 0 is none.
-pub fn settle(levels: &mut [u16], c: Condition, level: u16)
-    requires { c.0 ≤ length levels.old }
-    ensures { levels.new ≡ cond (eqb c.0 0) levels.old (set levels.old (c.0 - 1) level) }
+// Notes that the condition that a place is within is settled at a level. Nothing is noted for a place that is within none.
+pub fn settle(levels: &mut [u16], place: Place, level: u16)
+    requires { HasLevel place levels.old }
+    ensures { levels.new ≡ with_level place level levels.old }
 {
-    if c.0 != 0 {
+    if let Place::Within(c, _) = place {
         levels[(c.0 - 1) as usize] = level;
     }
 }

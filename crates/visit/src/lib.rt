@@ -32,33 +32,6 @@ struct Stage {
     limit: u16,
 }
 
-impl Stage {
-    // From a split into its same branch: a record more, and the next level.
-    fn in_same(self) -> Stage
-        requires { (self.before + 1 < 4294967296) × (self.level + 1 < 65536) }
-        ensures { (result.m ≡ self.m) × (result.before ≡ self.before + 1) × (result.level ≡ self.level + 1) × (result.limit ≡ self.limit) }
-    {
-        Stage {
-            m: self.m,
-            before: self.before + 1,
-            level: self.level + 1,
-            limit: self.limit,
-        }
-    }
-
-    // From a split into its apart branch, after so many records: the level stays.
-    fn in_apart(self, before: u32) -> Stage
-        ensures { (result.m ≡ self.m) × (result.before ≡ before) × (result.level ≡ self.level) × (result.limit ≡ self.limit) }
-    {
-        Stage {
-            m: self.m,
-            before,
-            level: self.level,
-            limit: self.limit,
-        }
-    }
-}
-
 // How a visit ended: met, or nothing met under the node, with the records written so far; or the store is full.
 #[derive(Clone, Copy)]
 pub enum Visited {
@@ -141,9 +114,12 @@ fn branches(
     let b = on.b;
     store::write(store, here, NodeRecord::Split(a, b, NodeNumber(0)));
     let same = map.join(a, b);
-    let up = at.in_same();
-    let c = on.condition;
-    scan::settle(levels, c, up.level);
+    let up = Stage {
+        before: at.before + 1,
+        level: at.level + 1,
+        ..at
+    };
+    scan::settle(levels, on.apart, up.level);
     let from = Place::Scan;
     let under_same = visit(sheet, same, from, count, up, pairs, grouping, store, levels);
     let Visited::Cannot(n) = under_same else {
@@ -155,8 +131,8 @@ fn branches(
     store::set_next(store, here, NodeNumber(n + 1));
     classes::set_apart(pairs, count, a, b);
     scan::clear_above(levels, at.level);
-    let at = at.in_apart(n);
-    let from = on.apart_place();
+    let at = Stage { before: n, ..at };
+    let from = on.apart;
     let count = count + 1;
     visit(sheet, map, from, count, at, pairs, grouping, store, levels)
 }

@@ -1,5 +1,4 @@
 -- `visit::start`: with no decision the map has every lot alone, there are no pairs, and no condition is settled; what is visited from there is the search.
-use Prim.Native.Nat.{◌≤◌}
 use mathlib.Core.List.{[]}
 use mathlib.Core.Path.{sym}
 use native.Mathlib.Omega.{arith}
@@ -16,22 +15,19 @@ use Rattle.visit.proofs.start.Goals as goal
 
 pub slice_bounds-levels-end : goal.slice_bounds-levels-end
 slice_bounds-levels-end c =
-    let conditions-within : c.args.m ≤ 256 = omega (arith, c.requires.0.sheet.counted, (sound c.args.sheet.now c.requires.0.sheet.accepted).header.conditions) in
-    omega (arith, conditions-within)
+    omega (arith, c.requires.0.sheet.counted, (sound c.args.sheet.now c.requires.0.sheet.accepted).header.conditions)
 
 pub slice_bounds-visit-end : goal.slice_bounds-visit-end
 slice_bounds-visit-end c =
-    let conditions-within : c.args.m ≤ 256 = omega (arith, c.requires.0.sheet.counted, (sound c.args.sheet.now c.requires.0.sheet.accepted).header.conditions) in
-    sym (length-take-le _ _ (omega (arith, conditions-within)))
+    sym (length-take-le _ _ (omega (arith, c.requires.0.sheet.counted, (sound c.args.sheet.now c.requires.0.sheet.accepted).header.conditions)))
 
 pub visit-requires : goal.visit-requires
 visit-requires c =
-    let conditions-within : c.args.m ≤ 256 = omega (arith, c.requires.0.sheet.counted, (sound c.args.sheet.now c.requires.0.sheet.accepted).header.conditions) in
     let s = c.args.sheet.now in
     let ok = c.requires.0.sheet.accepted in (
       c.requires.0,
       record {
-        settled = start_settled _ s 256 c.args.m (conditions-within) (omega (arith, c.requires.0.sheet.counted));
+        settled = start_settled _ s 256 c.args.m (omega (arith, c.requires.0.sheet.counted, (sound s ok).header.conditions)) (omega (arith, c.requires.0.sheet.counted));
         path = [];
         standing = start_standing c.args.limit s ok _ _ c.new-map.ensures c.requires.1;
         resumes = tt;
