@@ -43,10 +43,6 @@ pub fn print(input: &[u8], out: &mut [u8; TEXT_ROOM]) -> usize
 {
     let mut grouping = [0u8; GROUPING_ROOM];
     let mut store = [0u8; STORE_ROOM];
-    let n = if input.len() < MOST_INPUT {
-        input.len()
-    } else {
-        MOST_INPUT
-    };
+    let n = input.len().min(MOST_INPUT);
     print_search(&input[..n], &mut grouping, &mut store, out)
 }
