@@ -3,7 +3,7 @@ use Prim.Native.Nat.{ℕ, suc, ◌+◌, ◌-◌, ◌<◌, ◌≤◌}
 use mathlib.Core.List.{List, [], ◌∷◌, ◌++◌, map}
 use mathlib.Core.Path.{◌≡◌, refl, ap}
 use native.Mathlib.Omega.{arith}
-use lib.ListN.{length, drop, get_or, drop_of_length-le}
+use lib.ListN.{length, drop, get_or}
 use lib.Seq.{drop-cons}
 use Rattle.sheet.specs.Conditions.{count_up}
 use Rattle.store.specs.Records.{NodeRecord, record_at}
@@ -27,13 +27,10 @@ pub start_line : (text : Text) (field : List ℕ) (fields : List (List ℕ)) →
     → Left text (line field fields) text (field ++ after fields)
 start_line text field fields h = rw (line_after field fields) (start (rw (line_after field fields) at h))
 
--- the next of its numbers, and its end after the last.
+-- and the next of its numbers.
 module _ {old text : Text} {all : List ℕ} (numbers : List ℕ) (i : ℕ) (w : Left old all text (after (map decimal (drop i numbers)))) where
   pub next_field : i < length numbers → Left old all text ((32 ∷ decimal (get_or numbers i 0)) ++ after (map decimal (drop (suc i) numbers)))
   next_field h = rw (drop-cons numbers i 0 h) at w
-
-  pub no_field : length numbers ≤ i → Left old all text (10 ∷ [])
-  no_field h = rw (drop_of_length-le numbers h) at w
 
 -- The records of a store from the next on.
 abbrev pub records_from : List ℕ → ℕ → ℕ → List NodeRecord

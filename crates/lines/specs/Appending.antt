@@ -18,3 +18,7 @@ HasRoom text bytes = text.len + length bytes ≤ length text.out.now
 pub record Appends (old new : Text) (bytes : List ℕ) : Type 0 where
   pub lent : new.out.ghost_name ≡ old.out.ghost_name
   pub wrote : Wrote old.out.now new.out.now old.len new.len bytes
+
+-- How many bytes the text has.
+abbrev pub text_len : Text → ℕ
+text_len text = text.len

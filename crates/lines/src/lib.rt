@@ -7,7 +7,7 @@ ghost use Rattle.store.specs.Records.{split_record, record_length};
 ghost use Rattle.store.specs.Code.{record_of};
 ghost use Rattle.lines.specs.Lines.{decimal, line, header_line, record_line, record_lines, refused_line, met_line};
 ghost use Rattle.lines.specs.Code.{first_records};
-ghost use Rattle.lines.specs.Appending.{Begins, Appends, HasRoom};
+ghost use Rattle.lines.specs.Appending.{Begins, Appends, HasRoom, text_len};
 
 use itoa::Buffer;
 use store::{NodeNumber, NodeRecord};
@@ -28,7 +28,7 @@ impl<'a> Text<'a> {
     }
 
     pub fn len(&self) -> usize
-        ensures { result ≡ self.now.len }
+        ensures { result ≡ text_len self.now }
     {
         self.len
     }

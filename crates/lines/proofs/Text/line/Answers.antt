@@ -4,8 +4,8 @@ use mathlib.Core.List.{map}
 use native.Mathlib.Numerals.{add-one}
 use lib.ListN.{drop}
 use Rattle.lines.specs.Lines.{decimal}
-use Rattle.lines.proofs.Fields.{after, start_line, next_field, no_field}
-use Rattle.lines.proofs.Appending.{room, then, last}
+use Rattle.lines.proofs.Fields.{after, start_line, next_field}
+use Rattle.lines.proofs.Appending.{room, then}
 use Rattle.lines.proofs.Text.line.Goals as goal
 
 pub word-requires : goal.word-requires
@@ -23,6 +23,3 @@ loop-x-preserved c =
     let numbers = c.args.numbers.now in
     let i = c.loop-x.x-index in
     rw (add-one i) (then (after (map decimal (drop (suc i) numbers))) c.field.ensures (next_field numbers i c.loop-x.invariant c.loop-x-test.true))
-
-pub returns : goal.returns
-returns c = last c.word-2.ensures (no_field c.args.numbers.now c.loop-x.x-index c.loop-x.invariant c.loop-x-test.false)

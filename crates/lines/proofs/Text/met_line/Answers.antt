@@ -4,8 +4,8 @@ use mathlib.Core.List.{map}
 use native.Mathlib.Numerals.{add-one}
 use lib.ListN.{drop}
 use Rattle.lines.specs.Lines.{decimal, met_word, met_line}
-use Rattle.lines.proofs.Fields.{after, start_line, next_field, no_field}
-use Rattle.lines.proofs.Appending.{room, then, last}
+use Rattle.lines.proofs.Fields.{after, start_line, next_field}
+use Rattle.lines.proofs.Appending.{room, then}
 use Rattle.lines.proofs.Text.met_line.Goals as goal
 
 pub word-requires : goal.word-requires
@@ -26,6 +26,3 @@ loop-lot-preserved c =
     let i = c.loop-lot.lot-index in
     rw (add-one i)
     (then (after (map decimal (drop (suc i) grouping))) (rw c.from.ensures at c.field.ensures) (next_field grouping i c.loop-lot.invariant c.loop-lot-test.true))
-
-pub returns : goal.returns
-returns c = last c.word-2.ensures (no_field c.args.grouping.now c.loop-lot.lot-index c.loop-lot.invariant c.loop-lot-test.false)
