@@ -89,7 +89,8 @@ impl<'a> Text<'a> {
         }
     }
 
-    // Met, with a grouping's bytes.
+    // Met, with a grouping's bytes. The loop is that of `line`, over bytes: one of any type that is `Into<u32>` had no list of numbers for its
+    // clause, since `Into` promises a relation.
     pub fn met_line(&mut self, grouping: &[u8])
         requires { HasRoom self.old (met_line grouping.now) }
         ensures { Appends self.old self.new (met_line grouping.now) }
@@ -110,7 +111,7 @@ impl<'a> Text<'a> {
         self.field(u32::from(n));
     }
 
-    // A space and a number: a field that is not a line's first.
+    // A space and a number: a field that is not a line's first. `write!` could fail by its contract, and `text::print` cannot.
     fn field(&mut self, x: u32)
         requires { HasRoom self.old (32 ∷ decimal x) }
         ensures { Appends self.old self.new (32 ∷ decimal x) }

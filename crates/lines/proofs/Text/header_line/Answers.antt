@@ -32,6 +32,11 @@ module _ (text : Text) (s : List ℕ) {h : Header} (e : h ≡ header_at s) (r : 
   behind_conditions : {next last : Text} → Appends text next (lots h) → Appends next last (conditions h) → Left text (header_line s) last (terms h)
   behind_conditions p q = then (terms h) q (behind_lots p)
 
+pub returns : goal.returns
+returns c =
+    last (rw c.from.ensures at c.line.ensures)
+    (behind_conditions c.args.self.now c.args.sheet.now c.header_of-h.ensures c.requires.1 c.count.ensures c.count-2.ensures)
+
 pub count-requires : goal.count-requires
 count-requires c =
     let h = c.header_of-h.result in
@@ -46,8 +51,3 @@ pub line-requires : goal.line-requires
 line-requires c =
     rw c.from.ensures
     (room-left (behind_conditions c.args.self.now c.args.sheet.now c.header_of-h.ensures c.requires.1 c.count.ensures c.count-2.ensures))
-
-pub returns : goal.returns
-returns c =
-    last (rw c.from.ensures at c.line.ensures)
-    (behind_conditions c.args.self.now c.args.sheet.now c.header_of-h.ensures c.requires.1 c.count.ensures c.count-2.ensures)
