@@ -1,4 +1,4 @@
-// Bytes and two-byte numbers of a buffer. What lies outside it reads as 0 and is not written.
+// Bytes, two-byte numbers and records of a buffer. What lies outside it reads as 0 and is not written.
 #![tactic(auto)]
 
 ghost use Rattle.std.specs.Prelude.{◌≡◌, ◌≢◌, ℕ, ◌+◌, ◌-◌, ◌*◌, ◌<◌, ◌≤◌, ◌++◌, drop, length, min, set, slice_index, take, ◌%◌, ◌/◌};
