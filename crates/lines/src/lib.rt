@@ -89,8 +89,8 @@ impl<'a> Text<'a> {
         }
     }
 
-    // Met, with a grouping's bytes. The loop is that of `line`, over bytes: one of any type that is `Into<u32>` had no list of numbers for its
-    // clause, since `Into` promises a relation.
+    // Met, with a grouping's bytes. The loop is that of `line`, over bytes. One for both is no plainer: `Into<u32>` promises a relation, which
+    // leaves its clause no numbers to name, and an iterator brings clauses of its own.
     pub fn met_line(&mut self, grouping: &[u8])
         requires { HasRoom self.old (met_line grouping.now) }
         ensures { Appends self.old self.new (met_line grouping.now) }
