@@ -1,15 +1,13 @@
 use Prim.Native.Nat.{ℕ, ◌+◌, ◌-◌, ◌≤◌, ◌<◌}
 use mathlib.Core.Bool.{Bool}
 use mathlib.Core.List.{List}
-use mathlib.Core.Path.{◌≡◌, sym, ◌∙◌}
+use mathlib.Core.Path.{◌≡◌}
 use native.Mathlib.Numerals.{add-one}
 use native.Mathlib.Omega.{arith}
 use lib.ListN.{length, take, drop, length-drop, drop_of_length-le}
 use lib.Seq.{take_all, drop-cons}
-use Rattle.equality.specs.Node.{class_of, Node, clique}
+use Rattle.equality.specs.Node.{class_of, clique}
 use Rattle.limit.specs.Rule.{split_with, clique_or_split}
-use Rattle.std.specs.Prelude.{Option, None}
-use Rattle.clique.specs.Found.{found_with}
 use Rattle.clique.proofs.first_listed.Goals as goal
 
 module _ (marks : ℕ → ℕ → Bool) (list : List ℕ) (i : ℕ) where
@@ -25,20 +23,14 @@ module _ (marks : ℕ → ℕ → Bool) (list : List ℕ) (i : ℕ) where
   unfolding clique_or_split
   scan_no_place h = rw (drop_of_length-le list h)
 
-none_found : (x : ℕ) (found : Option ℕ) (others : Node) → found ≡ None → found_with x found others ≡ others
-none_found x found others e = rw e
-
 pub returns-in-Some : goal.returns-in-Some
 returns-in-Some c =
-    rw (c.from.ensures, c.from-in-Some.ensures) (sym (c.loop-low.invariant ∙ scan_place _ c.args.list.now c.loop-low.low (omega arith) ∙ c.in-Some.ensures _))
+    grind (arith, scan_place)
 
 pub loop-low-preserved : goal.loop-low-preserved
 loop-low-preserved c =
-    c.loop-low.invariant
-    ∙ scan_place _ c.args.list.now c.loop-low.low (omega arith)
-    ∙ c.unmarked_in.ensures _
-    ∙ none_found _ _ _ c.in_default.is
+    grind (arith, scan_place)
 
 pub returns : goal.returns
 returns c =
-    sym (c.loop-low.invariant ∙ scan_no_place _ c.args.list.now c.loop-low.low (omega arith))
+    grind (arith, scan_no_place)

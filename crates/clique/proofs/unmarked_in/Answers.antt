@@ -1,7 +1,7 @@
 use Prim.Native.Nat.{ℕ, ◌+◌, ◌≤◌, ◌<◌}
 use mathlib.Core.Bool.{Bool, true, false}
 use mathlib.Core.List.{List}
-use mathlib.Core.Path.{◌≡◌, sym, ◌∙◌}
+use mathlib.Core.Path.{◌≡◌}
 use native.Mathlib.Numerals.{add-one}
 use native.Mathlib.Omega.{arith}
 use lib.ListN.{length, drop, drop_of_length-le}
@@ -27,13 +27,13 @@ module _ (marks : ℕ → ℕ → Bool) (x : ℕ) (list : List ℕ) (i : ℕ) wh
   none_left h others = rw (drop_of_length-le list h)
 
 pub returns-then-not-is_marked : goal.returns-then-not-is_marked
-returns-then-not-is_marked c others =
-    c.loop-y.invariant others ∙ unmarked _ _ c.args.list.now c.loop-y.y-index (omega arith) (sym c.is_marked.ensures ∙ c.if-not-is_marked.true) others
+returns-then-not-is_marked c =
+    grind (arith, unmarked)
 
 pub loop-y-preserved : goal.loop-y-preserved
-loop-y-preserved c others =
-    c.loop-y.invariant others ∙ marked _ _ c.args.list.now c.loop-y.y-index (omega arith) (sym c.is_marked.ensures ∙ c.if-not-is_marked.false) others
+loop-y-preserved c =
+    grind (arith, marked)
 
 pub returns : goal.returns
-returns c others =
-    c.loop-y.invariant others ∙ none_left _ _ c.args.list.now c.loop-y.y-index (omega arith) others
+returns c =
+    grind (arith, none_left)

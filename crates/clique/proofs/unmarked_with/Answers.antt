@@ -2,7 +2,7 @@ use Prim.Native.Nat.{ℕ, ◌+◌, ◌<◌}
 use mathlib.Core.Bool.{Bool, true, false}
 use mathlib.Core.List.{List}
 use mathlib.Core.Logic.{◌≢◌}
-use mathlib.Core.Path.{◌≡◌, sym, ◌∙◌}
+use mathlib.Core.Path.{◌≡◌, ◌∙◌}
 use native.Mathlib.Numerals.{add-one}
 use native.Mathlib.Omega.{arith}
 use borrow.Author.Tests.{eq-eqb, ne_eqb}
@@ -11,7 +11,6 @@ use Rattle.limit.specs.Rule.{split_with}
 use Rattle.limit.specs.Scan.{classes_from}
 use Rattle.limit.proofs.Scan.{with_class, with_other, with_end}
 use Rattle.clique.proofs.unmarked_with.Goals as goal
-use Rattle.clique.proofs.unmarked_with.Goals.{else-from-y-via-then-from-y+else-not-is_marked, else-from-y-via-else-from-y}
 
 module _ (marks : ℕ → ℕ → Bool) (lots : List ℕ) (end x y : ℕ) (h : y < end) where
   -- A class is the one found, where it isn't marked;
@@ -27,18 +26,13 @@ module _ (marks : ℕ → ℕ → Bool) (lots : List ℕ) (end x y : ℕ) (h : y
   passed other others = with_other lots marks end x y others h (ne_eqb _ _ other) ∙ rw (add-one y)
 
 pub returns-then-not-is_marked : goal.returns-then-not-is_marked
-returns-then-not-is_marked c others =
-    c.loop-y.invariant others
-    ∙ unmarked _ c.args.lots.now c.args.end c.args.x c.loop-y.y (omega arith) (sym c.from.ensures ∙ c.if-from-y.true) (sym c.is_marked.ensures ∙ c.if-not-is_marked.true) others
+returns-then-not-is_marked c =
+    grind (arith, unmarked)
 
 pub loop-y-preserved : goal.loop-y-preserved
-loop-y-preserved c others =
-    c.loop-y.invariant others
-    ∙ elim c.else-from-y.branch [
-      | else-from-y-via-then-from-y+else-not-is_marked w ↦ marked _ c.args.lots.now c.args.end c.args.x c.loop-y.y (omega arith) (sym c.from.ensures ∙ w.if-from-y.true) (sym w.is_marked.ensures ∙ w.if-not-is_marked.false) others
-      | else-from-y-via-else-from-y w ↦ passed _ c.args.lots.now c.args.end c.args.x c.loop-y.y (omega arith) (λ own. w.if-from-y.false (c.from.ensures ∙ own)) others
-    ]
+loop-y-preserved c =
+    grind (arith, marked, passed)
 
 pub returns : goal.returns
-returns c others =
-    c.loop-y.invariant others ∙ with_end c.args.lots.now _ c.args.end c.args.x c.loop-y.y others (omega arith)
+returns c =
+    grind (arith, with_end)

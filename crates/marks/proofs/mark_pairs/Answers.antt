@@ -7,7 +7,7 @@ use Rattle.marks.proofs.mark_pairs.Goals as goal
 pub loop-i-init : goal.loop-i-init
 unfolding set_apart
 loop-i-init c =
-    (marks_none c.requires.4, outside-none _ _)
+    grind (arith, marks_none, outside-none)
 
 pub loop-i-preserved : goal.loop-i-preserved
 loop-i-preserved c =
