@@ -23,7 +23,7 @@ use Rattle.leaves.proofs.Cliques.{few-classes, pairs_decide}
 use Rattle.leaves.proofs.clique_passes.Goals as goal
 
 -- The map at the path's level has its classes.
-module _ (path maps levels : List ℕ) (depth : ℕ) (w : Walkable path maps levels depth) (lots : List ℕ) (e : lots ≡ row maps (level_under levels depth)) where
+module _ {path maps levels : List ℕ} {depth : ℕ} (w : Walkable path maps levels depth) {lots : List ℕ} (e : lots ≡ row maps (level_under levels depth)) where
   -- The decisions of the path.
   abbrev ds : Decisions
   ds = decided path depth
@@ -69,14 +69,14 @@ top-lots-requires c =
 
 pub first_classes-first-requires : goal.first_classes-first-requires
 first_classes-first-requires c =
-    (is_map c.args.path.now c.args.maps.now c.args.levels.now c.args.depth c.requires.1 c.top-lots.result.now c.top-lots.ensures, c.requires.0)
+    (is_map c.requires.1 c.top-lots.ensures, c.requires.0)
 
 pub returns-then-first-limit : goal.returns-then-first-limit
 returns-then-first-limit c =
     let firsts = c.first_classes-first in
     record {
       passes = sym
-          (few c.args.path.now c.args.maps.now c.args.levels.now c.args.depth c.requires.1 c.top-lots.result.now c.top-lots.ensures
+          (few c.requires.1 c.top-lots.ensures
           c.args.n c.args.limit firsts.result.end firsts.result.count firsts.ensures.first firsts.ensures.count c.if-first-limit.true);
     }
 
@@ -84,12 +84,12 @@ pub stamp-requires : goal.stamp-requires
 stamp-requires c = (
   c.requires.2,
   c.requires.1.within,
-  is_map c.args.path.now c.args.maps.now c.args.levels.now c.args.depth c.requires.1 c.top-lots.result.now c.top-lots.ensures,
+  is_map c.requires.1 c.top-lots.ensures,
 )
 
 pub first_open-requires : goal.first_open-requires
 first_open-requires c = (
-  is_map c.args.path.now c.args.maps.now c.args.levels.now c.args.depth c.requires.1 c.top-lots.result.now c.top-lots.ensures,
+  is_map c.requires.1 c.top-lots.ensures,
   omega (arith, c.stamp.auto.table, c.requires.2),
   omega arith,
   omega (arith, c.first_classes-first.ensures.end, c.requires.0),
@@ -100,7 +100,7 @@ returns c =
     let firsts = c.first_classes-first in
     record {
       passes = no_pair c.first_open.result c.is_none.result c.is_none.ensures
-          ∙ decides c.args.path.now c.args.maps.now c.args.levels.now c.args.depth c.requires.1 c.top-lots.result.now c.top-lots.ensures
+          ∙ decides c.requires.1 c.top-lots.ensures
           c.args.n c.args.limit firsts.result.end firsts.result.count firsts.ensures.first firsts.ensures.count
           c.if-first-limit.false (omega (arith, firsts.ensures.end, c.requires.0)) c.stamp.new.table c.stamp.ensures _ c.first_open.ensures;
     }
