@@ -14,7 +14,7 @@ ghost use Rattle.std.specs.Prelude.{◌<◌, length};
 
 use line::Text;
 use plain::Sheet;
-use sheet::Reading;
+use sheet::{Header, Refusal};
 use std::io;
 use std::io::{Read, Write};
 
@@ -69,13 +69,15 @@ fn sheet_of(mut line: Text) -> Sheet {
     sheet
 }
 
-fn say(reading: Reading, out: &mut impl Write) -> io::Result<()> {
+fn say(reading: Result<Header, Refusal>, out: &mut impl Write) -> io::Result<()> {
     match reading {
-        Reading::Accepted {
-            lots,
-            conditions,
-            records,
-        } => writeln!(out, ": accepted {lots} {conditions} {records}"),
-        Reading::Refused { check, place } => writeln!(out, ": refused {check} {place}"),
+        Ok(
+            Header {
+                lots,
+                conditions,
+                records,
+            },
+        ) => writeln!(out, ": accepted {lots} {conditions} {records}"),
+        Err(refusal) => writeln!(out, ": {refusal}"),
     }
 }

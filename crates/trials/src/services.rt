@@ -1,28 +1,31 @@
 // The services under test, and whether their answers bear each other out.
-use checker::CheckAnswer;
-use evaluator::Evaluation;
-use search::SearchAnswer;
+use search::Found;
 use second_solver::{Answer, Refusal};
+
+// A refusal by the numbers that the second statement of the checks gives, too.
+fn numbered(refusal: sheet::Refusal) -> Refusal {
+    Refusal {
+        check: refusal.check(),
+        place: refusal.place(),
+    }
+}
 
 pub fn searched(sheet: &[u8], grouping: &mut [u8], store: &mut [u8]) -> Result<Answer, Refusal> {
     match search::search(sheet, grouping, store) {
-        SearchAnswer::Met { count } => Ok(Answer::Met { count }),
-        SearchAnswer::Cannot { count } => Ok(Answer::Cannot { count }),
-        SearchAnswer::Full { capacity } => Ok(Answer::Full { capacity }),
-        SearchAnswer::Refused { check, place } => Err(Refusal { check, place }),
+        Ok(Found::Met { count }) => Ok(Answer::Met { count }),
+        Ok(Found::Cannot { count }) => Ok(Answer::Cannot { count }),
+        Err(sheet::Refusal::FullStore(capacity)) => Ok(Answer::Full { capacity }),
+        Err(refusal) => Err(numbered(refusal)),
     }
 }
 
 // What the checker says of a list.
 pub fn checked(sheet: &[u8], list: &[u8]) -> Result<(), Refusal> {
-    match checker::check(sheet, list) {
-        CheckAnswer::Passed => Ok(()),
-        CheckAnswer::Refused { check, place } => Err(Refusal { check, place }),
-    }
+    checker::check(sheet, list).map_err(numbered)
 }
 
 fn is_met_by(sheet: &[u8], grouping: &[u8]) -> bool {
-    matches!(evaluator::evaluate(sheet, grouping), Evaluation::AllMet)
+    matches!(evaluator::evaluate(sheet, grouping), Ok(None))
 }
 
 fn is_refuted_by(sheet: &[u8], store: &[u8], count: u32) -> bool {
