@@ -18,11 +18,6 @@ pub loop-c-init : goal.loop-c-init
 loop-c-init c =
     start
 
-pub head_at-head-requires : goal.head_at-head-requires
-head_at-head-requires c =
-    let in_range : c.loop-c.c ≤ condition_count c.args.sheet.now = omega (arith, conditions-counted c.requires) in
-    omega (arith, in_range)
-
 pub returns-then-h-head : goal.returns-then-h-head
 unfolding check4
 returns-then-h-head c =

@@ -7,20 +7,11 @@ use native.Mathlib.Omega.{arith}
 use Rattle.sheet.specs.Format.{record_count, vacant}
 use Rattle.sheet.specs.Inner.{is_flagged, unflagged_verdict}
 use Rattle.sheet.proofs.Accepted.{records-counted}
-use Rattle.sheet.proofs.Loops.{start, end, refused, passed}
+use Rattle.sheet.proofs.Loops.{end, refused, passed}
 use Rattle.reader.proofs.checks.reached.Goals as goal
 
 abbrev left_out : List ℕ → List ℕ → ℕ → Bool
 left_out s flags r = not (vacant s r || is_flagged flags r)
-
-pub loop-r-init : goal.loop-r-init
-loop-r-init c =
-    start
-
-pub left_out-requires : goal.left_out-requires
-left_out-requires c =
-    let in_range : c.loop-r.r ≤ record_count c.args.sheet.now = omega (arith, records-counted c.requires.header) in
-    (c.requires, c.loop-r.invariant.least, in_range)
 
 pub returns-then-left_out : goal.returns-then-left_out
 unfolding unflagged_verdict

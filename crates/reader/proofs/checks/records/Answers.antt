@@ -6,22 +6,12 @@ use mathlib.Core.Path.{sym, ap, ◌∙◌}
 use native.Mathlib.Omega.{arith}
 use Rattle.sheet.specs.Format.{lowest_lot, record_count, vacant}
 use Rattle.sheet.specs.Checks.{check5, well_formed}
-use Rattle.sheet.proofs.Loops.{start, end, refused, passed}
-use Rattle.sheet.proofs.Accepted.{conditions-counted, records-counted, has_record}
+use Rattle.sheet.proofs.Loops.{end, refused, passed}
+use Rattle.sheet.proofs.Accepted.{records-counted}
 use Rattle.reader.proofs.checks.records.Goals as goal
 
 abbrev badly_formed : List ℕ → ℕ → Bool
 badly_formed s r = not (vacant s r || well_formed lowest_lot s r)
-
-pub loop-r-init : goal.loop-r-init
-loop-r-init c =
-    start
-
-pub vacant_or_formed-requires : goal.vacant_or_formed-requires
-vacant_or_formed-requires c =
-    let in_range : c.loop-r.r ≤ record_count c.args.sheet.now = omega (arith, records-counted c.requires) in
-    let has = c.requires in
-    (has.counts, rw (conditions-counted has) (has_record has c.loop-r.r c.loop-r.invariant.least (in_range)))
 
 pub returns-then-not-vacant_or_formed : goal.returns-then-not-vacant_or_formed
 unfolding check5

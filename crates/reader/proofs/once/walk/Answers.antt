@@ -13,23 +13,6 @@ pub loop-c-init : goal.loop-c-init
 loop-c-init c =
     none_yet c.args.sheet.now c.requires.0.flaggable.room c.requires.1
 
-pub head_at-head-requires : goal.head_at-head-requires
-head_at-head-requires c =
-    let in_range : c.loop-c.c ≤ condition_count c.args.sheet.now = omega (arith, conditions-counted c.requires.0.flaggable.header) in
-    omega (arith, in_range)
-
-pub walk_chain-requires : goal.walk_chain-requires
-walk_chain-requires c =
-    let in_range : c.loop-c.c ≤ condition_count c.args.sheet.now = omega (arith, conditions-counted c.requires.0.flaggable.header) in
-    let w = c.requires.0 in (
-      record {
-        flaggable = record { header = w.flaggable.header; signs = w.flaggable.signs; room = c.loop-c.invariant.room };
-        heads = w.heads;
-        nexts = w.nexts;
-      },
-      rw c.head_at-head.ensures (w.heads c.loop-c.c c.loop-c.invariant.least (in_range)),
-    )
-
 pub returns-in_err-walk_chain : goal.returns-in_err-walk_chain
 returns-in_err-walk_chain c =
     let in_range : c.loop-c.c ≤ condition_count c.args.sheet.now = omega (arith, conditions-counted c.requires.0.flaggable.header) in
