@@ -146,5 +146,8 @@ pub fn write_grouping(grouping: &mut [u8], map: Classes)
     requires { (length grouping.old ≤ most_lots) × ClassesWithin map.lots }
     ensures { grouping.new ≡ take (length grouping.old) (drop 1 map.lots) }
 {
-    grouping.copy_from_slice(&map.lots[1..=grouping.len()]);
+    // No `copy_from_slice`: with it each level of the search takes 128 bytes more of the stack, and the search more instructions.
+    for (i, smallest) in grouping.iter_mut().enumerate() {
+        *smallest = map.lots[i + 1];
+    }
 }
