@@ -1,8 +1,5 @@
-use Prim.Native.Nat.{◌≤◌, ◌<◌}
-use mathlib.Core.Bool.{not, false}
-use mathlib.Core.Path.{sym, ap, subst, ◌∙◌}
+use mathlib.Core.Path.{sym, ◌∙◌}
 use native.Mathlib.Omega.{arith}
-use borrow.Author.Tests.{not-true}
 use Rattle.equality.proofs.Passing.{passing_through}
 use Rattle.equality.proofs.Walking.{record_here, following_fits, lots_here, rest_here, passed_here}
 use Rattle.node.proofs.Opening.{table-says}

@@ -12,20 +12,14 @@ use Rattle.limit.specs.Scan.{classes_up_to, pairs_at, ScanFrom}
 use Rattle.classes.specs.declared.Classes.{Classes}
 use Rattle.classes.specs.Pairs.{set_apart, Represents}
 use Rattle.marks.specs.Marks.{Marks, mark_at}
-use Rattle.marks.proofs.Bytes.{outside-none}
 use Rattle.marks.proofs.Marks.{marks_at, marks_represent}
 use Rattle.node.proofs.Pairing.{few-met, scan_node}
 use Rattle.node.proofs.under_limit.Goals as goal
 
-pub returns-then-first-limit : goal.returns-then-first-limit
-returns-then-first-limit c =
-    let args = c.args in record {
-      node = (λ ds rep from.
-          few-met args.map.lots ds rep.lots args.limit args.lots c.first_classes-first.result.end c.first_classes-first.ensures.first
-          (omega (arith, c.first_classes-first.ensures.count, c.if-first-limit.true)));
-      pair = tt;
-      outside = outside-none _ _;
-    }
+pub returns-then-first-limit-clause-node : goal.returns-then-first-limit-clause-node
+returns-then-first-limit-clause-node c ds rep from =
+    let firsts = c.first_classes-first in
+    few-met c.args.map.lots ds rep.lots c.args.limit c.args.lots firsts.result.end firsts.ensures.first (omega (arith, firsts.ensures.count, c.if-first-limit.true))
 
 -- More classes than the limit: what the pairs come to by a table that is marked.
 module _ (map : Classes) (pairs table : List ℕ) (at count limit lots x y end : ℕ) (rises : x < y)
