@@ -26,7 +26,8 @@ pub enum Place {
 // it: some "same" term's lots share a class, or some "apart" term's do not (`taken_by_classes`), or it has no term. Where a "same" term's do, the condition is
 // settled: it is met under every further decision, so the level of the path is noted for it, and a condition that has a level is not read. The map's array is
 // read in place: a method that hands the map back would copy it for each term. Records of a chain mostly follow each other in the sheet. Within such a run the
-// next record is known before its number is read: the loop over a run need not wait for it.
+// next record is known before its number is read: the loop over a run need not wait for it. The outer loop is no `for`: it yields a place by break, as
+// docs/PROMISES.md has it. A level is a number, with 0 for none, and no Option: `Settled`, `Later` and `ClearedAbove` speak of numbers.
 pub fn scan(sheet: &[u8], m: u16, map: Classes, levels: &mut [u16], level: u16) -> Place
     requires { HasConditions sheet.now m × Settled map.lots sheet.now levels.old level }
     ensures stands { (limit : Limit) (lots : ℕ) (ds : Decisions) → map.lots ≡ classes ds → Stands limit lots sheet.now result ds }

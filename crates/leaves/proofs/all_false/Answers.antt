@@ -1,5 +1,6 @@
+use Prim.Native.Nat.{◌+◌}
 use mathlib.Core.Bool.{not}
-use mathlib.Core.Path.{sym, ap, ◌∙◌}
+use mathlib.Core.Path.{◌≡◌, sym, ap, ◌∙◌}
 use native.Mathlib.Omega.{arith}
 use Rattle.equality.proofs.Passing.{passing_through, ended}
 use Rattle.equality.proofs.Walking.{record_here, following_fits, lots_here, rest_here, passed_here, true_here}
@@ -56,7 +57,8 @@ chain-preserved c =
 pub loop-t-smaller : goal.loop-t-smaller
 loop-t-smaller c =
     let run = c.loop-t.invariant in
-    rw c.if-t-following.false at (rest_here c.requires.0 run.0 run.1 c.term_at-t.ensures)
+    let followed : c.term_at-t.result.next.0 ≡ c.loop-t.at.0 + 1 = c.if-t-following.false in
+    rw followed at (rest_here c.requires.0 run.0 run.1 c.term_at-t.ensures)
 
 pub loop-t-preserved : goal.loop-t-preserved
 loop-t-preserved c =

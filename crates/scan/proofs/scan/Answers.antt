@@ -1,4 +1,5 @@
-use mathlib.Core.Path.{refl, sym, ◌∙◌}
+use Prim.Native.Nat.{◌+◌}
+use mathlib.Core.Path.{◌≡◌, refl, sym, ◌∙◌}
 use native.Mathlib.Omega.{arith}
 use borrow.Author.Tests.{eq-eqb}
 use Rattle.sheet.specs.Conditions.{condition_at, conditions}
@@ -79,7 +80,9 @@ terms-preserved c =
 
 -- or goes on.
 pub run-smaller : goal.run-smaller
-run-smaller c = rw c.if-t-following.false at (rest_here c.requires.0 c.run.invariant.1 c.run.invariant.0 c.term_at-t.ensures)
+run-smaller c =
+    let followed : c.term_at-t.result.next.0 ≡ c.run.at.0 + 1 = c.if-t-following.false in
+    rw followed at (rest_here c.requires.0 c.run.invariant.1 c.run.invariant.0 c.term_at-t.ensures)
 
 pub run-preserved : goal.run-preserved
 run-preserved c =
