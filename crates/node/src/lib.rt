@@ -35,8 +35,8 @@ pub enum Node {
     Split(Split),
 }
 
-// What a node is that takes none, under a limit or none: met, a split on a pair of classes, or a clique. No variants of `Node`: with one enum for both, what the
-// node is came back through memory, and a search without a limit took up to a tenth more instructions (docs/DECISIONS.md).
+// What a node is that takes none, under a limit or none: met, a split on a pair of classes, or a clique. No variants of `Node`: with one enum for both, what
+// the node is came back through memory, and a search without a limit took up to a tenth more instructions (docs/DECISIONS.md).
 #[derive(Clone, Copy)]
 pub enum Untaken {
     Met,
