@@ -32,7 +32,10 @@ fn copy_row(maps: &mut [u8], level: usize)
 {
     let from = ENTRIES * level;
     let to = from + ENTRIES;
-    maps.copy_within(from..from + ENTRIES, to);
+    // `copy_within` takes up to a tenth more of a check's instructions: it is a call for each row, and this loop goes together with the join's.
+    for i in 0..ENTRIES {
+        maps[to + i] = maps[from + i];
+    }
 }
 
 // The next row: that of a level, with the classes x and y joined.
