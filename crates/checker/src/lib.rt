@@ -127,7 +127,7 @@ pub fn check(sheet: &[u8], list: &[u8]) -> Result<(), Refusal>
 }
 
 // The refutation checker under a limit on the classes, whatever number is given for it: what passes tells that nobody can meet the sheet with at most so many
-// different numbers.
+// different numbers. No twin of `check`: it has a check more, and clauses of its own.
 pub fn check_limited(sheet: &[u8], limit: u32, list: &[u8]) -> Result<(), Refusal>
     ensures answer { checked_answer result ≡ limited_check_answer sheet.now limit list.now }
     ensures passed { PassedExactlyUnder (up_to limit) result sheet.now list.now }

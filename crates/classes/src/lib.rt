@@ -18,7 +18,8 @@ pub struct Classes {
     pub lots: [u8; ENTRIES],
 }
 
-// A lot's smallest lot, and the map: handed back, since the law's map goes by value with methods that do so.
+// A lot's smallest lot, and the map: handed back, since the law has the map by value with methods that do so
+// (docs/DECISIONS.md, "Language forms").
 #[derive(Clone, Copy)]
 pub struct Smallest {
     pub classes: Classes,
@@ -146,8 +147,9 @@ pub fn write_grouping(grouping: &mut [u8], map: Classes)
     requires { (length grouping.old ≤ most_lots) × ClassesWithin map.lots }
     ensures { grouping.new ≡ take (length grouping.old) (drop 1 map.lots) }
 {
-    // No `copy_from_slice`: with it each level of the search takes 128 bytes more of the stack, and the search more instructions.
+    // No `copy_from_slice`: the law has the grouping read by `smallest_lot`, and with a copy each level of the search takes 128 bytes more of the stack.
     for (i, smallest) in grouping.iter_mut().enumerate() {
-        *smallest = map.lots[i + 1];
+        let found = map.smallest_lot(Lot((i + 1) as u16));
+        *smallest = found.lot.0 as u8;
     }
 }

@@ -26,9 +26,6 @@ const MOST_LIMIT: u32 = 129;
 // Where a limit is 0 there is none.
 pub const NO_LIMIT: u16 = 0;
 
-// The number of the check that a limit can be asked for.
-pub const ILL_LIMITED: u32 = 20;
-
 // Whether a limit is none that can be asked for, by all of its 32 bits.
 pub fn ill_limited(limit: u32) -> bool
     ensures { result ≡ ill_limited limit }
@@ -78,7 +75,8 @@ fn unmarked_with(
     None
 }
 
-// Writes the classes from lot `from` on and below lot `end` into a list, each by its smallest lot, rising, and answers how many there are.
+// Writes the classes from lot `from` on and below lot `end` into a list, each by its smallest lot, rising, and answers how many there are. They are counted by hand, since not
+// every lot is one.
 fn list_classes(lots: &[u8], from: usize, end: usize, list: &mut [u8]) -> usize
     requires { ClassMap lots.now × (end ≤ suc most_lots) × (length list.old ≡ suc most_lots) }
     ensures count { result ≤ suc most_lots }

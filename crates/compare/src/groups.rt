@@ -75,7 +75,7 @@ fn case(text: &[u8], counts: &mut Counts) {
     counts.examine(&sheet[..n], Some(wanted(&text[..colon])));
 }
 
-// A number too many is wanted of no search, as check 0 is: there is none.
+// A line with a number too many is a difference, as it always was: it wants check 0, which no search gives.
 fn wanted(text: &[u8]) -> Result<Answer, Refusal> {
     let first = line::number(text, 1);
     let second = line::number(text, 2);

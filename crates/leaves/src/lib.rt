@@ -51,7 +51,7 @@ fn all_false(sheet: &[u8], m: u16, lots: &[u8], table: &[u8], head: Record) -> b
     ensures { result ≡ not (any_term (allows lots.now (mark_at table.now 0)) (terms_from sheet.now head.0)) }
 {
     let mut at = head;
-    // In runs of records that follow each other, as `node::scan` goes.
+    // In runs of records that follow each other, as the scan goes.
     'chain: while at.0 != 0 {
         loop {
             let following = at.0 + 1;
@@ -91,7 +91,7 @@ fn latest_between(path: &[u32], depth: usize, lots: &[u8], x: u8, y: u8) -> Opti
     None
 }
 
-// The first record of the chain whose term is not seen to be false, or 0: for a "same" term whose lots share no class the splits are walked over, as long as
+// The first record of the chain whose term is not seen to be false, or 0, which ends a chain: for a "same" term whose lots share no class the splits are walked over, as long as
 // those passed over so far and a whole walk more are no more than `marks::WALKED`. The split found is not counted: it is one step a term.
 fn past_false(sheet: &[u8], m: u16, path: &[u32], depth: usize, lots: &[u8], head: Record) -> Record
     requires { HasConditions sheet.now m × PathWithin path.now depth × ClassMap lots.now × OnChain sheet.now head.0 }

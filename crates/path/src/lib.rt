@@ -14,7 +14,7 @@ use store::NodeNumber;
 // The numbers of a split: its record number, its next, the branch taken, lot a, lot b. A record number has 32 bits, so that no list is too long for it.
 pub const SPLIT_LENGTH: usize = 5;
 
-// The branch taken is written as the sign of its decision.
+// The branch taken is written as the sign of its decision, among lent numbers, where `split_in` reads it.
 const SAME_BRANCH: u32 = sheet::SAME as u32;
 
 const APART_BRANCH: u32 = sheet::APART as u32;
@@ -132,7 +132,7 @@ pub fn drop_last(path: &mut [u32], depth: usize) -> usize
     p.depth
 }
 
-// The nearest split still in its same branch: how many splits stand above and with it, or 0 where there is none. Those nearer are over, and dropped.
+// The nearest split still in its same branch: how many splits stand above and with it, or 0 where there is none (`nearest_as` reads it so). Those nearer are over, and dropped.
 pub fn nearest(path: &mut [u32], depth: usize) -> usize
     requires { split_length * depth ≤ length path.old }
     ensures within { result ≤ depth }
@@ -140,7 +140,7 @@ pub fn nearest(path: &mut [u32], depth: usize) -> usize
     ensures numbers { path.new ≡ path.old }
 {
     let mut top = depth;
-    // No `for`: a turn drops a split of the lent path (`drop_last`), and that counts down.
+    // No `for`: the law has a split dropped from the lent path, and `drop_last`, which does that, counts down.
     while 0 < top {
         let branch = path[SPLIT_LENGTH * (top - 1) + 2];
         if branch == SAME_BRANCH {

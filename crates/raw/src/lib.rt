@@ -38,7 +38,7 @@ pub fn put_number(bytes: &mut [u8], at: usize, value: u16)
     }
 }
 
-// The first place from `from` on, below `end`, that holds the byte, or `end` where none does.
+// The first place from `from` on, below `end`, that holds the byte, or `end` where none does: its clauses and edits hold that form.
 pub fn find(bytes: &[u8], from: usize, end: usize, byte: u8) -> usize
     ensures low { from ≤ end → from ≤ result }
     ensures high { result ≤ end }

@@ -54,7 +54,7 @@ fn reached_once(sheet: &[u8], h: Header, flags: &mut [u8]) -> Result<(), Refusal
     checks::reached(sheet, h, flags)
 }
 
-// Checks 17, 6 and 7, once checks 1 to 5 have passed.
+// Checks 17, 6 and 7, once checks 1 to 5 have passed. A flag is a byte, of fixed memory: `Flags` speaks of numbers.
 pub(crate) fn check(sheet: &[u8], h: Header) -> Result<(), Refusal>
     requires { HasHeader sheet.now h × (check4 sheet.now ≡ Passes) × (check5 lowest_lot sheet.now ≡ Passes) }
     ensures { verdict_of result ≡ or_else (check17_and6 sheet.now) (check7 sheet.now) }

@@ -17,7 +17,7 @@ use writer::Writer;
 // Two sheets have no more conditions than so many.
 pub const ENTRIES: usize = 512;
 
-// A condition's number is less than this, and stands in an entry below the digest.
+// A condition's number is less than this, and stands in an entry below the digest: as a pair, 512 entries would take twice the memory.
 const NUMBERS: u32 = 512;
 
 // How far the entries of a sheet go, and how many terms their conditions have.
@@ -109,7 +109,7 @@ fn left_out(
     repeats_between(second, m2, condition, second, m2, entries, from, upto)
 }
 
-// Adds an entry for each condition of the second sheet that stays behind those of the first sheet that have one, up to `from`.
+// Adds an entry for each condition of the second sheet that stays behind those of the first sheet that have one, up to `from`. Entries are counted by hand, since not every condition gets one.
 fn gather(first: &[u8], m1: u16, from: usize, second: &[u8], m2: u16, entries: &mut [u32]) -> Kept
     requires { HasConditions first.now m1 × HasConditions second.now m2
         × EntriesOf first.now 0 from entries.old × (from ≤ most_conditions) × (from + m2 ≤ length entries.old) }

@@ -135,7 +135,7 @@ pub fn search(sheet: &[u8], grouping: &mut [u8], store: &mut [u8]) -> Result<Fou
 }
 
 // The search under a limit on the classes, for any bytes, any limit and any buffers: as the search without one, of the assignments that have at most so many
-// different numbers on lots 0 to n. All 32 bits of the limit count.
+// different numbers on lots 0 to n. All 32 bits of the limit count. No twin of `search`: it has a check more, and clauses of its own.
 pub fn search_limited(
     sheet: &[u8],
     limit: u32,

@@ -14,7 +14,8 @@ pub enum Answer {
     Full { capacity: u32 },
 }
 
-// A check that refuses, and the place that it gives. Checks are the table's numbers here: the services' own type for them isn't shared.
+// A check that refuses, and the place that it gives. Checks are numbers here, as the table's lines state them; the services' own type for them isn't
+// shared.
 #[derive(Clone, Copy, Debug, PartialEq, Eq)]
 pub struct Refusal {
     pub check: u32,

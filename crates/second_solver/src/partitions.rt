@@ -16,8 +16,8 @@ const MOST_LOTS: usize = 6;
 
 const WAYS: u16 = 203;
 
-// The lots that a sheet's terms name, each once. A count stands beside their places: a Vec would ask each caller for memory, and a library's list of fixed size
-// would be code that this shares with others.
+// The lots that a sheet's terms name, each once. A count stands beside their places: nothing here is taken from the heap, and the list is
+// a few lines.
 #[derive(Clone, Copy)]
 struct Names {
     lots: [u16; MOST_LOTS],

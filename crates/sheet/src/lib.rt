@@ -25,7 +25,7 @@ pub struct Record(pub u16);
 // Lots 0 to 128: what is kept for each lot that there can be has so many entries.
 pub const LOT_ENTRIES: usize = 129;
 
-// The signs of a term.
+// The signs of a term: bytes and no enum, since a vacant record has neither, and `term_at` promises the byte that stands there.
 pub const SAME: u8 = 1;
 
 pub const APART: u8 = 2;

@@ -17,7 +17,7 @@ pub const MOST_NODES: usize = 65535;
 // Where in a node record its next stands.
 const NEXT_PLACE: usize = 6;
 
-// The kinds of node records.
+// The kinds of node records, by their bytes: the law has a record decoded by a match on its kind byte with ranges.
 const SPLIT: u8 = 1;
 
 const GROUND: u8 = 2;

@@ -86,7 +86,7 @@ fn case<R: Read + Drop>(
     say(service, answer, second, third, out)
 }
 
-// The next byte; 255 at the end of the file, in a buffer too, so that a file that breaks off is run as far as it goes.
+// The next byte; 255 at the end of the file, in a buffer too, so that a file that breaks off is run as far as it goes, as it always was.
 fn byte<R: Read + Drop>(from: &mut Bytes<R>) -> io::Result<u8> {
     from.next().unwrap_or(Ok(255))
 }

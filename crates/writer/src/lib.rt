@@ -18,7 +18,7 @@ pub struct Writer {
     // Where the next record goes, and its number.
     pub place: usize,
     pub number: Record,
-    // Where the number of the next term's record goes: the latest condition's head, or the next of its last record. Before the first condition, 0.
+    // Where the number of the next term's record goes: the latest condition's head, or the next of its last record. Before the first condition, 0, as `draft` has it.
     pub link: usize,
 }
 

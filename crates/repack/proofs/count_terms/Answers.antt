@@ -39,7 +39,7 @@ loop-r-preserved c =
     let r = c.loop-r.r + 1 in
     let below : c.loop-r.r < record_count s = omega (arith, c.loop-r-test.true, c.requires.1) in
     let told : eqb c.term_at-t.result.sign 0 ≡ vacant s r = ap (λ (t : Term). eqb t.sign 0) c.term_at-t.ensures
-        ∙ vacant_or_signed s r ((sound s c.requires.0.accepted).records r (omega arith) (omega (arith, below))) in
+    ∙ vacant_or_signed s r ((sound s c.requires.0.accepted).records r (omega arith) (omega (arith, below))) in
     elim c.if-t-ne0.branch [
       | then-t-ne0 w ↦ rw w.terms-is (filled_next c.loop-r.invariant below (sym told ∙ ne_eqb _ _ w.if-t-ne0.true))
       | else-t-ne0 w ↦ rw w.terms-is (vacant-next c.loop-r.invariant below (sym told ∙ eq-eqb _ _ w.if-t-ne0.false))
