@@ -1,16 +1,15 @@
 -- What a node is under a limit, by what it is without one, and what a split says of its apart branch, whichever limit there is: on a term it goes on in the
 -- condition, on a pair of classes after the pair.
-use Prim.Native.Nat.{ℕ, zero, suc}
+use Prim.Native.Nat.{ℕ}
 use mathlib.Core.List.{List, ◌∷◌}
-use mathlib.Core.Logic.{◌≢◌}
 use mathlib.Core.Path.{◌≡◌, refl, sym, subst, ◌∙◌}
 use native.Mathlib.Omega.{arith}
+use Rattle.std.specs.Prelude.{Option, Some, None}
 use Rattle.sheet.specs.Conditions.{apart, conditions}
 use Rattle.equality.specs.Node.{Decisions, Taken, no_condition, takes, taken, Node, met, ground, split, node}
 use Rattle.limit.specs.Meaning.{Limit, unlimited, up_to}
 use Rattle.limit.specs.Rule.{none_taken, node_under}
-use Rattle.limit.specs.Scan.{ResumesAfter, limit_of}
-use Rattle.limit.proofs.Range.{limit_of_lem}
+use Rattle.limit.specs.Scan.{ResumesAfter, limit_in}
 use Rattle.limit.proofs.Resumes.{under_takes, pair_resumes}
 use Rattle.node.specs.declared.Split as pair
 use Rattle.node.specs.declared.Untaken.{Untaken}
@@ -72,15 +71,15 @@ pair_leaves g n s ds none Met pair e = tt
 pair_leaves g n s ds none (Split on) pair e = rw pair (pair_resumes ds on.a.0 on.b.0 g n (conditions s) none (sym e))
 pair_leaves g n s ds none Clique pair e = tt
 
--- The node, and what it says of its apart branch, by the number that the code has for the limit: with one,
-pub limited-node : (l n : ℕ) (s : List ℕ) (ds : Decisions) → l ≢ 0 → taken ds 1 (conditions s) ≡ no_condition → (k : Untaken) → PairSplit k
-    → untaken_as k ≡ none_taken (up_to l) n ds → (untaken_as k ≡ none_taken (limit_of l) n ds) × PairLeaves (limit_of l) n s k ds
-limited-node l n s ds some none k pair e = rw (limit_of_lem l (omega (arith, some))) (e, pair_leaves l n s ds none k pair e)
+-- The node, and what it says of its apart branch, by the limit that is asked for: with one,
+pub limited-node : {l : Option ℕ} (g n : ℕ) (s : List ℕ) (ds : Decisions) → l ≡ Some g → taken ds 1 (conditions s) ≡ no_condition → (k : Untaken) → PairSplit k
+    → untaken_as k ≡ none_taken (up_to g) n ds → (untaken_as k ≡ none_taken (limit_in l) n ds) × PairLeaves (limit_in l) n s k ds
+limited-node g n s ds is none k pair e = rw is (e, pair_leaves g n s ds none k pair e)
 
 -- and without one.
-pub no_limit_met : (l n : ℕ) (ds : Decisions) → l ≡ 0 → met ≡ none_taken (limit_of l) n ds
+pub no_limit_met : {l : Option ℕ} (n : ℕ) (ds : Decisions) → l ≡ None → met ≡ none_taken (limit_in l) n ds
 unfolding none_taken
-no_limit_met l n ds e = rw e
+no_limit_met n ds is = rw is
 
 -- ---- a node that is looked at after a pair
 
@@ -89,7 +88,7 @@ pub pair_none : (limit : Limit) (n : ℕ) (s : List ℕ) (x y : ℕ) (ds : Decis
 pair_none unlimited n s x y ds w = absurd w
 pair_none (up_to g) n s x y ds w = w.none
 
--- and is only where there is a limit.
-pub resumes-limited : (l n : ℕ) (s : List ℕ) (x y : ℕ) (ds : Decisions) → ResumesPair (limit_of l) n s x y ds → (l ≢ 0) × ResumesAfter l n (conditions s) x y ds
-resumes-limited zero n s x y ds w = absurd w
-resumes-limited (suc g) n s x y ds w = ((λ e. omega arith), w)
+-- and no pair up to that one is unmarked, under the limit that is asked for.
+pub resumes-limited : {l : Option ℕ} (g n : ℕ) (s : List ℕ) (x y : ℕ) (ds : Decisions) → l ≡ Some g → ResumesPair (limit_in l) n s x y ds
+    → ResumesAfter g n (conditions s) x y ds
+resumes-limited g n s x y ds is w = rw is at w

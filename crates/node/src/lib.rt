@@ -7,7 +7,7 @@ ghost use Rattle.sheet.specs.Conditions.{conditions};
 ghost use Rattle.equality.specs.Node.{Decisions, no_condition, classes, taken, node};
 ghost use Rattle.limit.specs.Meaning.{Limit, up_to};
 ghost use Rattle.limit.specs.Rule.{none_taken};
-ghost use Rattle.limit.specs.Scan.{ScanFrom, limit_of};
+ghost use Rattle.limit.specs.Scan.{ScanFrom, limit_in};
 ghost use Rattle.classes.specs.Maps.{ClassMap};
 ghost use Rattle.classes.specs.Pairs.{Represents};
 ghost use Rattle.marks.specs.Marks.{table_length, Room, Marks, Outside};
@@ -209,24 +209,24 @@ pub fn node_at(
     }
 }
 
-// What a node is that takes no condition, under a limit or, where that is 0, none, of lots 0 to `lots`. Apart from `node_at`, so that a search's level has one
-// copy of the map for each of the two, and not one more; and asked only where no condition is taken, so that all other nodes go on as without a limit.
+// What a node is that takes no condition, under a limit or none, of lots 0 to `lots`. Apart from `node_at`, so that a search's level has one copy of the map
+// for each of the two, and not one more; and asked only where no condition is taken, so that all other nodes go on as without a limit.
 pub fn none_taken(
     map: Classes,
     lots: u16,
-    limit: u16,
+    limit: Option<u16>,
     pairs: &mut [u8],
     count: usize,
     place: Place,
 ) -> Untaken
     requires { Markable map pairs.old count × (lots ≤ most_lots) × Rises place }
-    ensures node { (s : List ℕ) (ds : Decisions) → Represents map pairs.old count ds → Stands (limit_of limit) lots s place ds → taken ds 1 (conditions s) ≡ no_condition → untaken_as result ≡ none_taken (limit_of limit) lots ds }
-    ensures leaves { (s : List ℕ) (ds : Decisions) → Represents map pairs.old count ds → Stands (limit_of limit) lots s place ds → taken ds 1 (conditions s) ≡ no_condition → PairLeaves (limit_of limit) lots s result ds }
+    ensures node { (s : List ℕ) (ds : Decisions) → Represents map pairs.old count ds → Stands (limit_in limit) lots s place ds → taken ds 1 (conditions s) ≡ no_condition → untaken_as result ≡ none_taken (limit_in limit) lots ds }
+    ensures leaves { (s : List ℕ) (ds : Decisions) → Represents map pairs.old count ds → Stands (limit_in limit) lots s place ds → taken ds 1 (conditions s) ≡ no_condition → PairLeaves (limit_in limit) lots s result ds }
     ensures outside { Outside pairs.old pairs.new (length pairs.old - table_length) }
 {
-    if limit == clique::NO_LIMIT {
+    let Some(limit) = limit else {
         return Untaken::Met;
-    }
+    };
     match place {
         Place::Within(_, _) => Untaken::Met,
         Place::Nowhere => under_limit(map, lots, limit, pairs, count, 0, 1),

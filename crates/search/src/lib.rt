@@ -8,7 +8,7 @@ ghost use Rattle.sheet.specs.Format.{lot_count};
 ghost use Rattle.sheet.specs.Conditions.{conditions};
 ghost use Rattle.equality.specs.Search.{search_tree};
 ghost use Rattle.limit.specs.Meaning.{up_to};
-ghost use Rattle.limit.specs.Scan.{limit_of};
+ghost use Rattle.limit.specs.Scan.{limit_in};
 ghost use Rattle.marks.specs.Marks.{table_length};
 ghost use Rattle.sheet.specs.Inner.{HasConditions};
 ghost use Rattle.store.specs.Records.{capacity};
@@ -46,13 +46,13 @@ fn search_accepted(
     sheet: &[u8],
     n: u16,
     m: u16,
-    limit: u16,
+    limit: Option<u16>,
     pairs: &mut [u8],
     grouping: &mut [u8],
     store: &mut [u8],
 ) -> Result<Found, Refusal>
-    requires { HasConditions sheet.now m × (n ≡ lot_count sheet.now) × (n ≤ length grouping.old) × (length pairs.old ≡ pairs_room (limit_of limit) + table_length) }
-    ensures { EndsAs n (result_of Passes (capacity store.old) (tree_of (limit_of limit) sheet.now))
+    requires { HasConditions sheet.now m × (n ≡ lot_count sheet.now) × (n ≤ length grouping.old) × (length pairs.old ≡ pairs_room (limit_in limit) + table_length) }
+    ensures { EndsAs n (result_of Passes (capacity store.old) (tree_of (limit_in limit) sheet.now))
         grouping.old grouping.new store.old store.new result }
 {
     let capacity = store::capacity_of(store);
@@ -80,13 +80,13 @@ fn search_within<const MARKS: usize>(
     sheet: &[u8],
     n: u16,
     m: u16,
-    limit: u16,
+    limit: Option<u16>,
     grouping: &mut [u8],
     store: &mut [u8],
 ) -> Result<Found, Refusal>
     requires { HasConditions sheet.now m × (n ≡ lot_count sheet.now) × (n ≤ length grouping.old)
-        × (MARKS ≡ pairs_room (limit_of limit) + table_length) × (MARKS < 65536) }
-    ensures { EndsAs n (result_of Passes (capacity store.old) (tree_of (limit_of limit) sheet.now))
+        × (MARKS ≡ pairs_room (limit_in limit) + table_length) × (MARKS < 65536) }
+    ensures { EndsAs n (result_of Passes (capacity store.old) (tree_of (limit_in limit) sheet.now))
         grouping.old grouping.new store.old store.new result }
 {
     let mut pairs = [0u8; MARKS];
@@ -124,14 +124,7 @@ pub fn search(sheet: &[u8], grouping: &mut [u8], store: &mut [u8]) -> Result<Fou
 {
     let h = reader::read(sheet)?;
     check_grouping(grouping, h.lots)?;
-    search_within::<MARKS_LENGTH>(
-        sheet,
-        h.lots,
-        h.conditions,
-        clique::NO_LIMIT,
-        grouping,
-        store,
-    )
+    search_within::<MARKS_LENGTH>(sheet, h.lots, h.conditions, None, grouping, store)
 }
 
 // The search under a limit on the classes, for any bytes, any limit and any buffers: as the search without one, of the assignments that have at most so many
@@ -161,6 +154,12 @@ pub fn search_limited(
         return Err(Refusal::NoSuchLimit(limit));
     }
     check_grouping(grouping, h.lots)?;
-    let limit = limit as u16;
-    search_within::<LIMITED_MARKS_LENGTH>(sheet, h.lots, h.conditions, limit, grouping, store)
+    search_within::<LIMITED_MARKS_LENGTH>(
+        sheet,
+        h.lots,
+        h.conditions,
+        Some(limit as u16),
+        grouping,
+        store,
+    )
 }

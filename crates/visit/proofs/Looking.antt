@@ -3,6 +3,7 @@ use Prim.Native.Nat.{ℕ, ◌+◌, ◌*◌, ◌-◌, ◌≤◌}
 use mathlib.Core.List.{List}
 use mathlib.Core.Path.{◌≡◌, sym, ap, subst, ◌∙◌}
 use native.Mathlib.Omega.{arith}
+use Rattle.std.specs.Prelude.{Option}
 use lib.ListN.{length}
 use Rattle.sheet.specs.Format.{lot_count}
 use Rattle.sheet.specs.declared.Condition.{Condition}
@@ -11,7 +12,7 @@ use Rattle.equality.specs.Node.{Decisions, no_condition, classes, taken, ground,
 use Rattle.equality.proofs.Rule.{met-none}
 use Rattle.limit.specs.Meaning.{Limit}
 use Rattle.limit.specs.Rule.{none_taken}
-use Rattle.limit.specs.Scan.{limit_of}
+use Rattle.limit.specs.Scan.{limit_in}
 use Rattle.limit.proofs.Resumes.{under_none}
 use Rattle.classes.specs.declared.Classes.{Classes}
 use Rattle.classes.specs.Pairs.{Represents, Untouched}
@@ -28,18 +29,18 @@ use Rattle.visit.specs.Visited.{rule_of, Standing}
 use Rattle.visit.proofs.Standing.{below_standing}
 
 -- Any path that a map and pairs represent, and from which a visit may go on.
-abbrev pub VisitedBy : ℕ → List ℕ → Classes → Place → ℕ → List ℕ → Decisions → Type 0
-VisitedBy limit s map from count pairs ds = Standing limit s map pairs count ds × Resumes (limit_of limit) (lot_count s) s from ds
+abbrev pub VisitedBy : Option ℕ → List ℕ → Classes → Place → ℕ → List ℕ → Decisions → Type 0
+VisitedBy limit s map from count pairs ds = Standing limit s map pairs count ds × Resumes (limit_in limit) (lot_count s) s from ds
 
 -- A split: its lots, where its apart branch goes on, and the pairs, which are as they were.
-pub record Parts (limit : ℕ) (s : List ℕ) (map : Classes) (from : Place) (count : ℕ) (pairs pairs' : List ℕ) (on : Split) : Type 0 where
+pub record Parts (limit : Option ℕ) (s : List ℕ) (map : Classes) (from : Place) (count : ℕ) (pairs pairs' : List ℕ) (on : Split) : Type 0 where
   pub sized : length pairs' ≡ length pairs
   pub untouched : Untouched pairs pairs' count
   pub splits : (ds : Decisions) → VisitedBy limit s map from count pairs ds → rule_of limit s ds ≡ split on.a.0 on.b.0
-  pub leaves : (ds : Decisions) → VisitedBy limit s map from count pairs ds → SplitLeaves (limit_of limit) (lot_count s) s on ds
+  pub leaves : (ds : Decisions) → VisitedBy limit s map from count pairs ds → SplitLeaves (limit_in limit) (lot_count s) s on ds
 
 -- What `locate` and `node_at` ensure, by the numbers that the visit gives them.
-pub record Looked (limit : ℕ) (s : List ℕ) (map : Classes) (from place : Place) (count : ℕ) (pairs pairs₁ : List ℕ) (found : declared.Node) : Type 0 where
+pub record Looked (limit : Option ℕ) (s : List ℕ) (map : Classes) (from place : Place) (count : ℕ) (pairs pairs₁ : List ℕ) (found : declared.Node) : Type 0 where
   pub stands : (l : Limit) (n : ℕ) (ds : Decisions) → map.lots ≡ classes ds → Resumes l n s from ds → Stands l n s place ds
   pub node : (l : Limit) (n : ℕ) (ds : Decisions) → Represents map pairs count ds → Stands l n s place ds → node_as found ≡ node ds (conditions s)
   pub leaves : (l : Limit) (n : ℕ) (ds : Decisions) → Represents map pairs count ds → Stands l n s place ds → TermLeaves s found ds
@@ -47,7 +48,7 @@ pub record Looked (limit : ℕ) (s : List ℕ) (map : Classes) (from place : Pla
   pub sized : length pairs₁ ≡ length pairs
   pub room : 2 * count + table_length ≤ length pairs
 
-pub look : {limit : ℕ} {s : List ℕ} {map : Classes} {from place : Place} {count : ℕ} {pairs pairs₁ : List ℕ} {found : declared.Node} {path : Decisions}
+pub look : {limit : Option ℕ} {s : List ℕ} {map : Classes} {from place : Place} {count : ℕ} {pairs pairs₁ : List ℕ} {found : declared.Node} {path : Decisions}
     → Standing limit s map pairs count path
     → ((l : Limit) (n : ℕ) (ds : Decisions) → map.lots ≡ classes ds → Resumes l n s from ds → Stands l n s place ds)
     → ((l : Limit) (n : ℕ) (ds : Decisions) → Represents map pairs count ds → Stands l n s place ds → node_as found ≡ node ds (conditions s))
@@ -56,10 +57,10 @@ pub look : {limit : ℕ} {s : List ℕ} {map : Classes} {from place : Place} {co
 look st stands node_is leaves outside sized =
     record { stands = stands; node = node_is; leaves = leaves; outside = outside; sized = sized; room = omega (arith, st.room) }
 
-module _ {limit : ℕ} {s : List ℕ} {map : Classes} {from place : Place} {count : ℕ} {pairs pairs₁ : List ℕ} {found : declared.Node}
+module _ {limit : Option ℕ} {s : List ℕ} {map : Classes} {from place : Place} {count : ℕ} {pairs pairs₁ : List ℕ} {found : declared.Node}
     (l : Looked limit s map from place count pairs pairs₁ found) where
-  here : (ds : Decisions) → VisitedBy limit s map from count pairs ds → Stands (limit_of limit) (lot_count s) s place ds
-  here ds at = l.stands (limit_of limit) (lot_count s) ds at.0.represents.lots at.1
+  here : (ds : Decisions) → VisitedBy limit s map from count pairs ds → Stands (limit_in limit) (lot_count s) s place ds
+  here ds at = l.stands (limit_in limit) (lot_count s) ds at.0.represents.lots at.1
 
   node_here : (ds : Decisions) → VisitedBy limit s map from count pairs ds → node_as found ≡ node ds (conditions s)
   node_here ds at = l.node _ _ ds at.0.represents (here ds at)
@@ -72,7 +73,7 @@ module _ {limit : ℕ} {s : List ℕ} {map : Classes} {from place : Place} {coun
 
   -- A ground,
   pub is_ground : (c : Condition) → found ≡ declared.TheVariants.Ground c → (ds : Decisions) → VisitedBy limit s map from count pairs ds → rule_of limit s ds ≡ ground c.0
-  is_ground c is ds at = ground_under (limit_of limit) (lot_count s) s ds _ (sym (ap node_as is) ∙ node_here ds at)
+  is_ground c is ds at = ground_under (limit_in limit) (lot_count s) s ds _ (sym (ap node_as is) ∙ node_here ds at)
 
   -- a split on a term,
   pub term_parts : (on : Split) → found ≡ declared.TheVariants.Split on → Parts limit s map from count pairs pairs₁ on
@@ -80,8 +81,8 @@ module _ {limit : ℕ} {s : List ℕ} {map : Classes} {from place : Place} {coun
       record {
         sized = l.sized;
         untouched = front;
-        splits = λ ds at. split_under (limit_of limit) (lot_count s) s ds _ _ (sym (ap node_as is) ∙ node_here ds at);
-        leaves = λ ds at. term_leaves (limit_of limit) (lot_count s) s ds on (subst (λ (k : declared.Node). TermLeaves s k ds) is (l.leaves _ _ ds at.0.represents (here ds at)));
+        splits = λ ds at. split_under (limit_in limit) (lot_count s) s ds _ _ (sym (ap node_as is) ∙ node_here ds at);
+        leaves = λ ds at. term_leaves (limit_in limit) (lot_count s) s ds on (subst (λ (k : declared.Node). TermLeaves s k ds) is (l.leaves _ _ ds at.0.represents (here ds at)));
       }
 
   -- or none is taken, and `none_taken` is asked, of so many lots.
@@ -89,20 +90,20 @@ module _ {limit : ℕ} {s : List ℕ} {map : Classes} {from place : Place} {coun
     none : (ds : Decisions) → VisitedBy limit s map from count pairs ds → taken ds 1 (conditions s) ≡ no_condition
     none ds at = met-none ds (conditions s) (sym (node_here ds at) ∙ ap node_as is)
 
-    here_too : (ds : Decisions) → VisitedBy limit s map from count pairs ds → Stands (limit_of limit) n s place ds
-    here_too ds at = subst (λ (k : ℕ). Stands (limit_of limit) k s place ds) (sym lots) (here ds at)
+    here_too : (ds : Decisions) → VisitedBy limit s map from count pairs ds → Stands (limit_in limit) n s place ds
+    here_too ds at = subst (λ (k : ℕ). Stands (limit_in limit) k s place ds) (sym lots) (here ds at)
 
     module _ (told : untaken.Untaken)
-        (answer : (s' : List ℕ) (ds : Decisions) → Represents map pairs₁ count ds → Stands (limit_of limit) n s' place ds → taken ds 1 (conditions s') ≡ no_condition
-        → untaken_as told ≡ none_taken (limit_of limit) n ds) where
+        (answer : (s' : List ℕ) (ds : Decisions) → Represents map pairs₁ count ds → Stands (limit_in limit) n s' place ds → taken ds 1 (conditions s') ≡ no_condition
+        → untaken_as told ≡ none_taken (limit_in limit) n ds) where
       pub untaken_is : (ds : Decisions) → VisitedBy limit s map from count pairs ds → rule_of limit s ds ≡ untaken_as told
       untaken_is ds at =
-          under_none (limit_of limit) (lot_count s) (conditions s) ds (none ds at)
-          ∙ sym (subst (λ (k : ℕ). untaken_as told ≡ none_taken (limit_of limit) k ds) lots (answer s ds (still ds at.0).represents (here_too ds at) (none ds at)))
+          under_none (limit_in limit) (lot_count s) (conditions s) ds (none ds at)
+          ∙ sym (subst (λ (k : ℕ). untaken_as told ≡ none_taken (limit_in limit) k ds) lots (answer s ds (still ds at.0).represents (here_too ds at) (none ds at)))
 
       -- It may be a split on a pair of classes.
-      pub pair_parts : ((s' : List ℕ) (ds : Decisions) → Represents map pairs₁ count ds → Stands (limit_of limit) n s' place ds → taken ds 1 (conditions s') ≡ no_condition
-          → PairLeaves (limit_of limit) n s' told ds)
+      pub pair_parts : ((s' : List ℕ) (ds : Decisions) → Represents map pairs₁ count ds → Stands (limit_in limit) n s' place ds → taken ds 1 (conditions s') ≡ no_condition
+          → PairLeaves (limit_in limit) n s' told ds)
           → (pairs₂ : List ℕ) → Outside pairs₁ pairs₂ (length pairs₁ - table_length) → length pairs₂ ≡ length pairs₁
           → (on : Split) → told ≡ untaken.TheVariants.Split on → Parts limit s map from count pairs pairs₂ on
       pair_parts leaves pairs₂ outside sized on split_is =
@@ -111,6 +112,6 @@ module _ {limit : ℕ} {s : List ℕ} {map : Classes} {from place : Place} {coun
             untouched = λ i h. outside-front outside count (omega (arith, l.room, l.sized)) i h ∙ front i h;
             splits = λ ds at. untaken_is ds at ∙ ap untaken_as split_is;
             leaves = λ ds at.
-                subst (λ (k : untaken.Untaken). PairLeaves (limit_of limit) (lot_count s) s k ds) split_is
-                (subst (λ (k : ℕ). PairLeaves (limit_of limit) k s told ds) lots (leaves s ds (still ds at.0).represents (here_too ds at) (none ds at)));
+                subst (λ (k : untaken.Untaken). PairLeaves (limit_in limit) (lot_count s) s k ds) split_is
+                (subst (λ (k : ℕ). PairLeaves (limit_in limit) k s told ds) lots (leaves s ds (still ds at.0).represents (here_too ds at) (none ds at)));
           }

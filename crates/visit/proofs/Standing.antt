@@ -4,6 +4,7 @@ use mathlib.Core.Bool.{Bool, ◌||◌}
 use mathlib.Core.List.{List, [], ◌∷◌}
 use mathlib.Core.Path.{◌≡◌, refl, sym, ap, ap₂, fun_ext, ◌∙◌}
 use native.Mathlib.Omega.{arith}
+use Rattle.std.specs.Prelude.{Option}
 use lib.Dec.{eqb}
 use lib.ListN.{length, get_or, set, take, replicate, length-set, length-replicate}
 use lib.Seq.{length-take-le}
@@ -18,7 +19,7 @@ use Rattle.equality.proofs.Node.{taken-apart}
 use Rattle.limit.specs.Meaning.{Limit, unlimited, up_to}
 use Rattle.limit.specs.Rule.{node_under}
 use Rattle.limit.specs.Search.{open_by}
-use Rattle.limit.specs.Scan.{limit_of}
+use Rattle.limit.specs.Scan.{limit_in}
 use Rattle.limit.proofs.Under.{split_open, under_branches}
 use Rattle.limit.proofs.Resumes.{under_takes}
 use Rattle.classes.specs.declared.Classes.{Classes}
@@ -45,8 +46,8 @@ abbrev shut_by : List ℕ → List ℕ → ℕ → ℕ → ℕ → Bool
 shut_by lots pairs count a b =
     eqb (class_of lots a) (class_of lots b) || marked lots (set_apart pairs count) (class_of lots a) (class_of lots b)
 
-pub open_by_map : ℕ → List ℕ → List ℕ → List ℕ → ℕ → ℕ
-open_by_map limit s lots pairs count = open_by (limit_of limit) (lot_count s) (conditions s) (shut_by lots pairs count)
+pub open_by_map : Option ℕ → List ℕ → List ℕ → List ℕ → ℕ → ℕ
+open_by_map limit s lots pairs count = open_by (limit_in limit) (lot_count s) (conditions s) (shut_by lots pairs count)
 
 -- ---- the path
 
@@ -122,26 +123,26 @@ start_settled cs s n m h e =
       each = λ i some. absurd (some (none-settled n m i));
     }
 
-pub start_level : (limit : ℕ) (s : List ℕ) → Accepted s → LevelWithin limit s 1 []
-start_level limit s ok = omega (arith, opens-within (limit_of limit) s ok [], levels_enough (limit_of limit))
+pub start_level : (limit : Option ℕ) (s : List ℕ) → Accepted s → LevelWithin limit s 1 []
+start_level limit s ok = omega (arith, opens-within (limit_in limit) s ok [], levels_enough (limit_in limit))
 
 -- No decision, and all the room that there is for pairs and a table.
-pub start_standing : (limit : ℕ) (s : List ℕ) → Accepted s → (map : Classes) (pairs : List ℕ) → map.lots ≡ classes []
-    → length pairs ≡ pairs_room (limit_of limit) + table_length → Standing limit s map pairs 0 []
+pub start_standing : (limit : Option ℕ) (s : List ℕ) → Accepted s → (map : Classes) (pairs : List ℕ) → map.lots ≡ classes []
+    → length pairs ≡ pairs_room (limit_in limit) + table_length → Standing limit s map pairs 0 []
 start_standing limit s ok map pairs new len =
     record {
       represents = new_represents map pairs new;
       small = tt;
-      room = omega (arith, len, opens-within (limit_of limit) s ok [], pairs_enough (limit_of limit));
+      room = omega (arith, len, opens-within (limit_in limit) s ok [], pairs_enough (limit_in limit));
       size = omega (arith, len);
     }
 
-module _ {limit : ℕ} {s : List ℕ} {map : Classes} {pairs : List ℕ} {count : ℕ} {ds : Decisions} (st : Standing limit s map pairs count ds) where
+module _ {limit : Option ℕ} {s : List ℕ} {map : Classes} {pairs : List ℕ} {count : ℕ} {ds : Decisions} (st : Standing limit s map pairs count ds) where
   -- The map and the pairs count what is open under the path.
   pub counted : open_by_map limit s map.lots pairs count ≡ open_left limit s ds
   unfolding open_by_map
   counted =
-      ap (open_by (limit_of limit) (lot_count s) (conditions s))
+      ap (open_by (limit_in limit) (lot_count s) (conditions s))
       (fun_ext
       (λ a. fun_ext
       (λ b. ap₂ ◌||◌ (ap₂ eqb (smallest_says st.represents a) (smallest_says st.represents b)) (marked-says st.represents a b))))
@@ -168,14 +169,14 @@ module _ {limit : ℕ} {s : List ℕ} {map : Classes} {pairs : List ℕ} {count 
   module _ (ok : Accepted s) (a b : ℕ) (e : rule_of limit s ds ≡ split a b) where
     pub split-small : (a ≤ most_lots) × (b ≤ most_lots)
     split-small =
-        let pair = (split_open (limit_of limit) (lot_count s) (conditions s) (conditions_in s ok) ds a b e).within in
+        let pair = (split_open (limit_in limit) (lot_count s) (conditions s) (conditions_in s ok) ds a b e).within in
         omega (arith, pair.0.high, pair.1.high, (sound s ok).header.lots)
 
     same_falls : open_left limit s (same a b ∷ ds) < open_left limit s ds
-    same_falls = (under_branches (limit_of limit) (lot_count s) (conditions s) (conditions_in s ok) ds tt a b e).same_falls
+    same_falls = (under_branches (limit_in limit) (lot_count s) (conditions s) (conditions_in s ok) ds tt a b e).same_falls
 
     apart_falls : open_left limit s (apart a b ∷ ds) < open_left limit s ds
-    apart_falls = (under_branches (limit_of limit) (lot_count s) (conditions s) (conditions_in s ok) ds tt a b e).apart_falls
+    apart_falls = (under_branches (limit_in limit) (lot_count s) (conditions s) (conditions_in s ok) ds tt a b e).apart_falls
 
     -- The same branch, by what `join` ensures;
     pub same-standing : (map' : Classes) → map'.lots ≡ merged (class_of map.lots a) (class_of map.lots b) map.lots
@@ -200,7 +201,7 @@ module _ {limit : ℕ} {s : List ℕ} {map : Classes} {pairs : List ℕ} {count 
 
     -- there is a number more,
     pub count_room : count + 1 < 4294967296
-    count_room = omega (arith, st.room, st.size, apart_falls, pairs-count (limit_of limit))
+    count_room = omega (arith, st.room, st.size, apart_falls, pairs-count (limit_in limit))
 
     -- there is room for a pair more,
     pub pair_room : 2 * count + 2 ≤ length pairs
@@ -219,12 +220,12 @@ module _ {limit : ℕ} {s : List ℕ} {map : Classes} {pairs : List ℕ} {count 
         })
 
 -- Whatever is written after the pairs, as much is open.
-pub below_same : {limit : ℕ} {s : List ℕ} {map : Classes} {pairs : List ℕ} {count : ℕ} {ds : Decisions} → Standing limit s map pairs count ds
+pub below_same : {limit : Option ℕ} {s : List ℕ} {map : Classes} {pairs : List ℕ} {count : ℕ} {ds : Decisions} → Standing limit s map pairs count ds
     → (pairs' : List ℕ) → length pairs' ≡ length pairs → Untouched pairs pairs' count → open_by_map limit s map.lots pairs' count ≡ open_by_map limit s map.lots pairs count
 below_same st pairs' len untouched = counted (below_standing st pairs' len untouched) ∙ sym (counted st)
 
 -- Less is open in each branch.
-module _ {limit : ℕ} {s : List ℕ} {map : Classes} {pairs : List ℕ} {count : ℕ} {ds : Decisions} (st : Standing limit s map pairs count ds)
+module _ {limit : Option ℕ} {s : List ℕ} {map : Classes} {pairs : List ℕ} {count : ℕ} {ds : Decisions} (st : Standing limit s map pairs count ds)
     (ok : Accepted s) (a b : ℕ) (e : rule_of limit s ds ≡ split a b) where
   pub same_less : (map' : Classes) → map'.lots ≡ merged (class_of map.lots a) (class_of map.lots b) map.lots
       → open_by_map limit s map'.lots pairs count < open_by_map limit s map.lots pairs count

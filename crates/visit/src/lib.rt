@@ -3,7 +3,7 @@
 
 ghost use Rattle.std.specs.Prelude.{◌≡◌, ◌+◌, ◌<◌, length};
 ghost use Rattle.sheet.specs.Conditions.{conditions};
-ghost use Rattle.limit.specs.Scan.{limit_of};
+ghost use Rattle.limit.specs.Scan.{limit_in};
 ghost use Rattle.marks.specs.Marks.{table_length};
 ghost use Rattle.scan.specs.Settled.{Later};
 ghost use Rattle.store.specs.Records.{capacity};
@@ -29,7 +29,7 @@ struct Stage {
     m: u16,
     before: u32,
     level: u16,
-    limit: u16,
+    limit: Option<u16>,
 }
 
 // How a visit ended: met, or nothing met under the node, with the records written so far; or the store is full.
@@ -141,13 +141,13 @@ fn branches(
 pub fn start(
     sheet: &[u8],
     m: u16,
-    limit: u16,
+    limit: Option<u16>,
     pairs: &mut [u8],
     grouping: &mut [u8],
     store: &mut [u8],
 ) -> Visited
-    requires { Searchable sheet.now m grouping.old × (length pairs.old ≡ pairs_room (limit_of limit) + table_length) }
-    ensures { Explored 0 store.old store.new grouping.old grouping.new result (tree_of (limit_of limit) sheet.now) }
+    requires { Searchable sheet.now m grouping.old × (length pairs.old ≡ pairs_room (limit_in limit) + table_length) }
+    ensures { Explored 0 store.old store.new grouping.old grouping.new result (tree_of (limit_in limit) sheet.now) }
 {
     let mut levels = [0u16; LEVELS_LENGTH];
     let room = m as usize;

@@ -1,5 +1,5 @@
 -- `search::search_limited`: the reader's refusal, the limit's, the grouping's, or the search of the accepted sheet.
-use Prim.Native.Nat.{ℕ, ◌≤◌}
+use Prim.Native.Nat.{ℕ}
 use mathlib.Core.Bool.{false}
 use mathlib.Core.Path.{◌≡◌, refl, sym, ap, ◌∙◌}
 use native.Mathlib.Omega.{arith}
@@ -8,8 +8,8 @@ use Rattle.sheet.specs.Verdicts.{Refuses}
 use Rattle.sheet.specs.declared.refusal.Refusal.TheVariants.{ShortGrouping, NoSuchLimit}
 use Rattle.sheet.proofs.Refusals.{passed_on_is}
 use Rattle.sheet.proofs.Readings.{read_accepts, read_refuses}
-use Rattle.limit.specs.Meaning.{up_to, most_limit, ill_limited, Admitted}
-use Rattle.limit.proofs.Range.{limit-within, limit_admitted, limit_of_lem}
+use Rattle.limit.specs.Meaning.{up_to, ill_limited, Admitted}
+use Rattle.limit.proofs.Range.{limit_admitted}
 use Rattle.outcome.proofs.Checked.{under_refused, under_short, under_all, limit-refused}
 use Rattle.visit.specs.Limits.{pairs_room}
 use Rattle.search.proofs.Entry.{refused-ends, ensured_under}
@@ -57,9 +57,7 @@ pub search_within-requires : goal.search_within-requires
 unfolding pairs_room
 search_within-requires c =
     let a = read_accepts _ _ _ _ c.in_ok-h.ensures in
-    let range : (1 ≤ c.args.limit) × (c.args.limit ≤ most_limit) = limit-within _ (sym c.ill_limited.ensures ∙ c.if-ill_limited.false) in
-    let kind = limit_of_lem c.args.limit range.0 in
-    (record { accepted = a.accepted; counted = a.conditions }, a.lots, c.in_ok-check_grouping.ensures.long, rw kind refl, omega arith)
+    (record { accepted = a.accepted; counted = a.conditions }, a.lots, c.in_ok-check_grouping.ensures.long, refl, omega arith)
 
 pub returns : goal.returns
 returns c =
@@ -69,7 +67,6 @@ returns c =
     let g = c.args.limit in
     let a = read_accepts s _ _ _ c.in_ok-h.ensures in
     let fine : ill_limited g ≡ false = sym c.ill_limited.ensures ∙ c.if-ill_limited.false in
-    let range : (1 ≤ g) × (g ≤ most_limit) = limit-within _ fine in
     let made = c.search_within in
     ensured_under (up_to g) s grouping store (under_all (up_to g) s grouping a.accepted (limit_admitted _ fine) (omega (arith, a.lots, c.in_ok-check_grouping.ensures.long)))
-    made.new.grouping made.new.store made.result (rw (a.lots, limit_of_lem g range.0) at made.ensures)
+    made.new.grouping made.new.store made.result (rw a.lots at made.ensures)

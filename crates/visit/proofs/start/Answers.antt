@@ -7,7 +7,7 @@ use Rattle.sheet.specs.Format.{lot_count}
 use Rattle.sheet.specs.Conditions.{conditions}
 use Rattle.sheet.proofs.Accepted.{sound}
 use Rattle.sheet.proofs.Conditions.{conditions_in}
-use Rattle.limit.specs.Scan.{limit_of}
+use Rattle.limit.specs.Scan.{limit_in}
 use Rattle.limit.proofs.Under.{under_visits}
 use Rattle.outcome.specs.Limited.{tree_of}
 use Rattle.visit.proofs.Standing.{start_standing, start_settled, start_level}
@@ -39,7 +39,7 @@ pub returns : goal.returns
 returns c =
     let s = c.args.sheet.now in
     let ok = c.requires.0.sheet.accepted in
-    c.visit.ensures.visited [] (tree_of (limit_of c.args.limit) s)
+    c.visit.ensures.visited [] (tree_of (limit_in c.args.limit) s)
     (start_standing c.args.limit s ok _ _ c.new-map.ensures c.requires.1)
     tt
-    (under_visits (limit_of c.args.limit) (lot_count s) (conditions s) (conditions_in s ok))
+    (under_visits (limit_in c.args.limit) (lot_count s) (conditions s) (conditions_in s ok))
