@@ -23,8 +23,8 @@ pub struct First {
 // The highest limit.
 const MOST_LIMIT: u32 = 129;
 
-// Where a limit is 0 there is none.
-pub const NO_LIMIT: u16 = 0;
+// The number of the check that a limit can be asked for.
+pub const ILL_LIMITED: u32 = 20;
 
 // Whether a limit is none that can be asked for, by all of its 32 bits.
 pub fn ill_limited(limit: u32) -> bool
