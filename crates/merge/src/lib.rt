@@ -54,8 +54,8 @@ fn merge_both(
         return Err(MergeRefusal::Both(Refusal::ShortForMerged(needed)));
     }
     let begun = writer::begin(out, lots, conditions, terms);
-    let half = kept::add(first, m1, &entries, 0, both.first, out, begun);
-    kept::add(second, m2, &entries, both.first, both.upto, out, half);
+    let half = kept::add(first, m1, &entries[..both.first], out, begun);
+    kept::add(second, m2, &entries[both.first..both.upto], out, half);
     Ok(needed)
 }
 

@@ -31,9 +31,3 @@ module _ {s : List ℕ} {from upto : ℕ} {entries : List ℕ} (l : EntriesOf s 
 
   pub each_lent : All (EntryOf s) (take (upto - from) (drop from entries))
   each_lent = subst (All (EntryOf s)) (sym lent) l.each
-
--- Entries are still there where these places are as they were.
-pub entries_still : {s : List ℕ} {from upto : ℕ} {entries after : List ℕ} → EntriesOf s from upto entries → take upto after ≡ take upto entries
-    → upto ≤ length after → EntriesOf s from upto after
-entries_still {s} {from} l same room =
-    record { order = l.order; room = room; each = subst (λ (es : List ℕ). All (EntryOf s) (drop from es)) (sym same) l.each }

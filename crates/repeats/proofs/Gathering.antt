@@ -6,7 +6,7 @@ use mathlib.Core.Path.{◌≡◌, refl, sym, ap, ap₂, subst, ◌∙◌}
 use native.Mathlib.Numerals.{add-one}
 use native.Mathlib.Omega.{arith}
 use lib.ListN.{length, take, drop, set, length-append, length-set}
-use lib.Seq.{slice, slice_empty, length-take-le, take-set-le, take-suc-set, drop-append-le}
+use lib.Seq.{take-suc-set}
 use Rattle.buffers.specs.Lists.{All}
 use Rattle.buffers.proofs.Lists.{all_both}
 use Rattle.sheet.specs.Format.{condition_count}
@@ -18,8 +18,7 @@ use Rattle.sheet.proofs.Conditions.{conditions_step, conditions_end}
 use Rattle.writer.proofs.Packing.{terms-append}
 use Rattle.repeats.specs.Repeats.{has_terms}
 use Rattle.repeats.specs.declared.chains.Sought.{Sought}
-use Rattle.repeats.specs.Inner.{digest_of, SoughtIn, SoughtAt, number_in, digest_in, EntryOf, kept_of, is_left_out, EntriesOf, Gathered}
-use Rattle.repeats.proofs.Entries.{entries_still}
+use Rattle.repeats.specs.Inner.{digest_of, SoughtIn, SoughtAt, number_in, digest_in, EntryOf, kept_of, is_left_out, Gathered}
 use Rattle.repeats.proofs.Staying.{Staying, staying_start, staying_past, staying_next, staying_end}
 
 -- ---- one condition more
@@ -29,32 +28,23 @@ terms_last : (tss : List (List Term)) (ts : List Term) → length (flatten (tss 
 unfolding flatten
 terms_last tss ts = omega (arith, terms-append tss (ts ∷ []), length-append ts [])
 
-module _ (s : List ℕ) (from upto : ℕ) (entries : List ℕ) (l : EntriesOf s from upto entries) (room : upto < length entries) (entry : ℕ) where
-  -- The entries, with one more,
-  slice_last : slice from (suc upto) (set entries upto entry) ≡ slice from upto entries ++ entry ∷ []
-  slice_last =
-      ap (drop from) (take-suc-set entries upto entry room)
-      ∙ drop-append-le from (take upto entries) (entry ∷ []) (omega (arith, length-take-le upto entries l.room, l.order))
-
-  -- the conditions that they have,
-  kept_last : kept_of s (slice from (suc upto) (set entries upto entry)) ≡ kept_of s (slice from upto entries) ++ condition_at s (number_in entry) ∷ []
-  kept_last = ap (kept_of s) slice_last ∙ map-append (λ e. condition_at s (number_in e)) (slice from upto entries) (entry ∷ [])
+module _ (s : List ℕ) (upto : ℕ) (entries : List ℕ) (room : upto < length entries) (entry : ℕ) where
+  -- The conditions that the entries have, with one more,
+  kept_last : kept_of s (take (suc upto) (set entries upto entry)) ≡ kept_of s (take upto entries) ++ condition_at s (number_in entry) ∷ []
+  kept_last =
+      ap (kept_of s) (take-suc-set entries upto entry room) ∙ map-append (λ e. condition_at s (number_in e)) (take upto entries) (entry ∷ [])
 
   -- and what they are.
-  entered_last : EntryOf s entry → EntriesOf s from (suc upto) (set entries upto entry)
-  entered_last one =
-      record {
-        order = omega (arith, l.order);
-        room = omega (arith, length-set entries upto entry);
-        each = subst (All (EntryOf s)) (sym slice_last) (all_both (EntryOf s) (slice from upto entries) (entry ∷ []) l.each (one, tt));
-      }
+  entered_last : All (EntryOf s) (take upto entries) → EntryOf s entry → All (EntryOf s) (take (suc upto) (set entries upto entry))
+  entered_last all one =
+      subst (All (EntryOf s)) (sym (take-suc-set entries upto entry room)) (all_both (EntryOf s) (take upto entries) (entry ∷ []) all (one, tt))
 
 -- ---- the loop
 
-module _ (s : List ℕ) (from : ℕ) (t start : List ℕ) where
+module _ (s mine t start : List ℕ) where
   -- The conditions of s that are kept.
   abbrev pub earlier : List (List Term)
-  earlier = kept_of s (take from start)
+  earlier = kept_of s mine
 
   -- The conditions from number c on.
   abbrev others : ℕ → List (List Term)
@@ -65,40 +55,35 @@ module _ (s : List ℕ) (from : ℕ) (t start : List ℕ) where
     pub low : 1 ≤ c
     pub within : c ≤ condition_count t + 1
     pub sized : length entries ≡ length start
-    pub before : take from entries ≡ take from start
-    pub entered : EntriesOf t from upto entries
-    pub few : upto + 1 ≤ from + c
-    pub staying : Staying has_terms earlier (conditions t) (kept_of t (slice from upto entries)) (others c)
-    pub counted : terms ≡ length (flatten (kept_of t (slice from upto entries)))
+    pub room : upto ≤ length entries
+    pub entered : All (EntryOf t) (take upto entries)
+    pub few : upto + 1 ≤ c
+    pub staying : Staying has_terms earlier (conditions t) (kept_of t (take upto entries)) (others c)
+    pub counted : terms ≡ length (flatten (kept_of t (take upto entries)))
     pub short : terms + length (flatten (others c)) ≤ length (flatten (conditions t))
 
-  pub gathering_start : EntriesOf s 0 from start → Gathering 1 start from 0
+  pub gathering_start : Gathering 1 start 0 0
   unfolding flatten
-  gathering_start before =
-      let none = slice_empty from start in
+  gathering_start =
       record {
         low = omega arith;
         within = omega arith;
         sized = refl;
-        before = refl;
-        entered = record { order = omega arith; room = before.room; each = subst (All (EntryOf t)) (sym none) tt };
+        room = omega arith;
+        entered = tt;
         few = omega arith;
-        staying = rw none (staying_start has_terms earlier (conditions t));
-        counted = rw none refl;
+        staying = staying_start has_terms earlier (conditions t);
+        counted = refl;
         short = omega arith;
       }
 
   module _ {c : ℕ} {entries : List ℕ} {upto terms : ℕ} (l : Gathering c entries upto terms) where
-    -- The entries of s are still there.
-    pub first-entries : EntriesOf s 0 from start → EntriesOf s 0 from entries
-    first-entries all = entries_still all l.before (omega (arith, all.room, l.sized))
-
     module _ (more : c ≤ condition_count t) where
       abbrev pub next : List Term
       next = condition_at t c
 
       abbrev found : List (List Term)
-      found = kept_of t (slice from upto entries)
+      found = kept_of t (take upto entries)
 
       step : others c ≡ next ∷ others (c + 1)
       step =
@@ -128,10 +113,10 @@ module _ (s : List ℕ) (from : ℕ) (t start : List ℕ) where
 
         -- and it is asked whether it is left out behind those kept so far.
         abbrev out : Bool
-        out = is_left_out (terms_from t r.head.0) (kept_of s (slice 0 from entries) ++ found)
+        out = is_left_out (terms_from t r.head.0) (earlier ++ found)
 
         asked : out ≡ is_left_out next (earlier ++ found)
-        asked = ap₂ (λ (ts : List Term) (es : List ℕ). is_left_out ts (kept_of s es ++ found)) (ap (terms_from t) sought.head) l.before
+        asked = ap (λ (h : ℕ). is_left_out (terms_from t h) (earlier ++ found)) sought.head
 
         -- It is left out,
         pub gathering_past : out ≡ true → Gathering (c + 1) entries upto terms
@@ -140,7 +125,7 @@ module _ (s : List ℕ) (from : ℕ) (t start : List ℕ) where
               low = omega arith;
               within = omega (arith, more);
               sized = l.sized;
-              before = l.before;
+              room = l.room;
               entered = l.entered;
               few = omega (arith, l.few);
               staying = staying_past has_terms earlier (conditions t) staying_here (sym asked ∙ e);
@@ -158,8 +143,8 @@ module _ (s : List ℕ) (from : ℕ) (t start : List ℕ) where
               high = omega (arith, number, more);
               digest = digest ∙ sought.digest ∙ ap (λ (i : ℕ). digest_of (condition_at t i)) (sym number);
             } in
-            let kept : kept_of t (slice from (suc upto) (set entries upto entry)) ≡ found ++ next ∷ [] =
-            kept_last t from upto entries l.entered room entry ∙ ap (λ (i : ℕ). found ++ condition_at t i ∷ []) number in
+            let kept : kept_of t (take (suc upto) (set entries upto entry)) ≡ found ++ next ∷ [] =
+            kept_last t upto entries room entry ∙ ap (λ (i : ℕ). found ++ condition_at t i ∷ []) number in
             let stays : Staying has_terms earlier (conditions t) (found ++ next ∷ []) (others (c + 1)) =
             staying_next has_terms earlier (conditions t) staying_here (sym asked ∙ e) in
             rw (add-one upto)
@@ -167,8 +152,8 @@ module _ (s : List ℕ) (from : ℕ) (t start : List ℕ) where
               low = omega arith;
               within = omega (arith, more);
               sized = length-set entries upto entry ∙ l.sized;
-              before = take-set-le from entries upto entry l.entered.order ∙ l.before;
-              entered = entered_last t from upto entries l.entered room entry one;
+              room = omega (arith, room, length-set entries upto entry);
+              entered = entered_last t upto entries room entry l.entered one;
               few = omega (arith, l.few);
               staying = subst (λ (tss : List (List Term)). Staying has_terms earlier (conditions t) tss (others (c + 1))) (sym kept) stays;
               counted = omega (arith, l.counted, sought.terms, terms_last found next, ap (λ (tss : List (List Term)). length (flatten tss)) kept);
@@ -176,15 +161,15 @@ module _ (s : List ℕ) (from : ℕ) (t start : List ℕ) where
             }
 
     -- Past the last condition, all that stay are entered.
-    pub gathered : condition_count t < c → Gathered s from t start entries (record { upto = upto; terms = terms })
+    pub gathered : condition_count t < c → Gathered s mine t entries (record { upto = upto; terms = terms })
     gathered past =
         record {
-          before = l.before;
+          room = l.room;
           entered = l.entered;
           few = omega (arith, l.few, l.within);
           stay =
               staying_end has_terms earlier (conditions t)
-              (subst (Staying has_terms earlier (conditions t) (kept_of t (slice from upto entries))) (conditions_end t (c - 1) (omega (arith, past))) l.staying);
+              (subst (Staying has_terms earlier (conditions t) (kept_of t (take upto entries))) (conditions_end t (c - 1) (omega (arith, past))) l.staying);
           terms = l.counted;
           short = omega (arith, l.short);
         }

@@ -4,7 +4,7 @@ use Rattle.std.specs.Prelude.{Err}
 use Rattle.sheet.specs.Verdicts.{Refuses}
 use Rattle.sheet.specs.Answers.{reading_answer}
 use Rattle.sheet.proofs.Refusals.{passed_on_is, mapped-ok, mapped-err}
-use Rattle.sheet.proofs.Readings.{ReadAs, read_accepts, read_refuses}
+use Rattle.sheet.proofs.Readings.{read_accepts, read_refuses}
 use Rattle.repeats.specs.Repeats.{has_terms}
 use Rattle.merge.specs.declared.MergeRefusal.TheVariants.{First}
 use Rattle.merge.proofs.Answering.{which_first, first-refused}

@@ -4,16 +4,17 @@ use mathlib.Core.List.{flatten}
 use mathlib.Core.Path.{◌≡◌, refl, sym, ap, ◌∙◌}
 use native.Mathlib.Omega.{arith}
 use lib.ListN.{length}
-use Rattle.sheet.specs.Verdicts.{Passes, Refuses}
+use Rattle.sheet.specs.Verdicts.{Passes}
 use Rattle.sheet.specs.Format.{most_conditions, most_records, sheet_length}
 use Rattle.sheet.specs.Answers.{refused, answered}
 use Rattle.sheet.proofs.Accepted.{sound}
 use Rattle.writer.specs.Drafts.{Draft, with_conditions}
 use Rattle.repeats.specs.Repeats.{has_terms, merged_conditions}
 use Rattle.repeats.specs.Inner.{Entered}
+use Rattle.repeats.proofs.Entries.{each_lent}
 use Rattle.std.specs.Prelude.{Ok}
 use Rattle.sheet.specs.declared.refusal.Refusal.TheVariants.{TooManyMergedConditions, TooManyMergedRecords, ShortForMerged}
-use Rattle.merge.specs.Merge.{merged_length, merge_verdict}
+use Rattle.merge.specs.Merge.{merged_length}
 use Rattle.merge.proofs.Counts.{needed, room-mine, room-others, counts_whole}
 use Rattle.merge.proofs.Answering.{which_neither, many_conditions, many_terms, output_short, all_pass}
 use Rattle.merge.proofs.Entry.{equations, both_refused}
@@ -67,7 +68,7 @@ add-half-requires c =
     let fits : sheet_length c.gather_both-both.result.upto c.gather_both-both.result.terms ≤ length c.args.out.now = omega (arith, c.length_of-needed.ensures, c.if-out-needed.false) in
     let l = entered in (
       c.requires.0,
-      l.mine,
+      l.mine.each,
       rw c.begin-begun.ensures (room-mine l c.args.out.now _ terms-few fits),
     )
 
@@ -79,7 +80,7 @@ add-requires c =
     let fits : sheet_length c.gather_both-both.result.upto c.gather_both-both.result.terms ≤ length c.args.out.now = omega (arith, c.length_of-needed.ensures, c.if-out-needed.false) in
     let l = entered in (
       c.requires.1,
-      l.others,
+      each_lent l.others,
       rw (c.add-half.ensures, c.begin-begun.ensures) (room-others l c.args.out.now _ terms-few fits),
     )
 

@@ -1,25 +1,21 @@
-use Prim.Native.Nat.{ℕ, ◌-◌}
+use Prim.Native.Nat.{ℕ}
 use mathlib.Core.Path.{sym, ap, subst}
 use native.Mathlib.Omega.{arith}
-use lib.ListN.{length, take, drop}
+use lib.ListN.{length}
 use Rattle.std.proofs.lemmas.List.{drop_more, drop_all}
 use Rattle.buffers.proofs.Lists.{all_nth}
 use Rattle.sheet.specs.Conditions.{condition_at}
 use Rattle.writer.specs.Drafts.{draft, RoomFor}
-use Rattle.writer.proofs.Packing.{packing_start, packing_room, packing_next, packing_end}
+use Rattle.writer.proofs.Packing.{packing_room, packing_next, packing_end}
 use Rattle.repeats.specs.Inner.{EntryOf, kept_of}
-use Rattle.repeats.proofs.Entries.{lent, each_lent}
 use Rattle.repeats.proofs.kept.add.Goals as goal
-
-pub loop-entry-init : goal.loop-entry-init
-loop-entry-init c = packing_start _ _ (rw (lent c.requires.1) c.requires.2)
 
 pub add_condition-next-requires : goal.add_condition-next-requires
 add_condition-next-requires c =
     let s = c.args.sheet.now in
     let l = c.loop-entry in
     -- The entry is one of the sheet's, and its condition is the first of those that are left.
-    let entry = all_nth (EntryOf s) _ 0 (each_lent c.requires.1) _ c.loop-entry-test.true in
+    let entry = all_nth (EntryOf s) _ 0 c.requires.1 _ c.loop-entry-test.true in
     let first = ap (kept_of s) (drop_more _ _ 0 c.loop-entry-test.true) in
     let number = sym c.number_in.ensures in (
       c.requires.0,
@@ -35,6 +31,5 @@ loop-entry-preserved c =
 
 pub returns : goal.returns
 returns c =
-    let a = c.args in
-    let none = drop_all c.loop-entry.entry-index (take (a.upto - a.from) (drop a.from a.entries.now)) (omega (arith, c.loop-entry-test.false)) in
-    rw (lent c.requires.1) at (packing_end c.loop-entry.invariant (ap (kept_of a.sheet.now) none))
+    let none = drop_all c.loop-entry.entry-index c.args.entries.now (omega (arith, c.loop-entry-test.false)) in
+    packing_end c.loop-entry.invariant (ap (kept_of c.args.sheet.now) none)

@@ -6,4 +6,4 @@ use Rattle.repeats.specs.Inner.{kept_of}
 use Rattle.repeats.proofs.kept.add.Given as goal
 
 abbrev pub invariant-loop-entry : goal.invariant-loop-entry
-invariant-loop-entry l = Packing (kept_of l.sheet l.entry-items) (draft l.initial.out l.initial.next) (kept_of l.sheet (drop l.entry-index l.entry-items)) (draft l.out l.next)
+invariant-loop-entry l = Packing (kept_of l.sheet l.entries) (draft l.initial.out l.initial.next) (kept_of l.sheet (drop l.entry-index l.entries)) (draft l.out l.next)

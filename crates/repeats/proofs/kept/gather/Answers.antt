@@ -6,16 +6,16 @@ use Rattle.sheet.proofs.Accepted.{sound}
 use Rattle.sheet.proofs.Conditions.{terms-length}
 use Rattle.repeats.specs.Inner.{digest_limit}
 use Rattle.repeats.proofs.Digesting.{digest-small}
-use Rattle.repeats.proofs.Gathering.{gathering_start, first-entries, sought_in, gathering_past, terms-few, one_more, gathered}
+use Rattle.repeats.proofs.Gathering.{gathering_start, sought_in, gathering_past, terms-few, one_more, gathered}
 use Rattle.repeats.proofs.kept.gather.Goals as goal
 
 pub loop-c-init : goal.loop-c-init
-loop-c-init c = gathering_start _ _ _ _ c.requires.2
+loop-c-init c = gathering_start _ _ _ _
 
 pub left_out-requires : goal.left_out-requires
 left_out-requires c =
     let l = c.loop-c.invariant in
-    (c.requires.0, c.requires.1, sought_in _ _ _ _ l (omega (arith, c.requires.1.counted)) c.condition_at-condition.ensures c.requires.1.accepted, first-entries _ _ _ _ l c.requires.2, l.entered)
+    (c.requires.0, c.requires.1, sought_in _ _ _ _ l (omega (arith, c.requires.1.counted)) c.condition_at-condition.ensures c.requires.1.accepted, c.requires.2, l.entered)
 
 -- ---- it is left out
 pub loop-c-preserved-then-left_out : goal.loop-c-preserved-then-left_out
@@ -45,14 +45,14 @@ overflow_add-terms c =
 pub loop-c-preserved : goal.loop-c-preserved
 loop-c-preserved c =
     let l = c.loop-c.invariant in
-    one_more _ _ _ _ l (omega (arith, c.requires.1.counted)) c.condition_at-condition.ensures (sym c.left_out.ensures ∙ c.if-left_out.false) (omega (arith, l.few, l.sized, c.requires.4)) _ c.entry_of.ensures
+    one_more _ _ _ _ l (omega (arith, c.requires.1.counted)) c.condition_at-condition.ensures (sym c.left_out.ensures ∙ c.if-left_out.false) (omega (arith, l.few, l.sized, c.requires.3)) _ c.entry_of.ensures
 
 -- ---- past the last
 pub returns-else-left_out : goal.returns-else-left_out
 returns-else-left_out c =
     let l = c.loop-c.invariant in
     gathered _ _ _ _
-    (one_more _ _ _ _ l (omega (arith, c.requires.1.counted)) c.condition_at-condition.ensures (sym c.left_out.ensures ∙ c.if-left_out.false) (omega (arith, l.few, l.sized, c.requires.4)) _ c.entry_of.ensures)
+    (one_more _ _ _ _ l (omega (arith, c.requires.1.counted)) c.condition_at-condition.ensures (sym c.left_out.ensures ∙ c.if-left_out.false) (omega (arith, l.few, l.sized, c.requires.3)) _ c.entry_of.ensures)
     (omega (arith, c.requires.1.counted))
 
 pub returns : goal.returns

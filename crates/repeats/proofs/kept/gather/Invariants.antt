@@ -3,4 +3,4 @@ use Rattle.repeats.proofs.Gathering.{Gathering}
 use Rattle.repeats.proofs.kept.gather.Given as goal
 
 abbrev pub invariant-loop-c : goal.invariant-loop-c
-invariant-loop-c l = Gathering l.first l.from l.second l.initial.entries l.c l.entries l.upto l.terms
+invariant-loop-c l = Gathering l.first l.mine l.second l.initial.others l.c l.others l.upto l.terms

@@ -4,7 +4,6 @@ use mathlib.Core.Bool.{Bool, true, false, ◌||◌}
 use mathlib.Core.List.{List, ◌++◌}
 use mathlib.Core.Path.{◌≡◌, sym, ap, ◌∙◌}
 use native.Mathlib.Omega.{arith}
-use lib.Seq.{slice}
 use Rattle.sheet.specs.Checks.{Accepted}
 use Rattle.sheet.specs.Conditions.{Term, terms_from}
 use Rattle.sheet.specs.Inner.{OnChain}
@@ -31,8 +30,8 @@ returns-then-condition-eq0 c =
 pub returns-then-repeats_between : goal.returns-then-repeats_between
 returns-then-repeats_between c =
     let terms : List Term = terms_from c.args.second.now c.args.condition.head.0 in
-    let behind : List (List Term) = kept_of c.args.first.now (slice 0 c.args.from c.args.entries.now) in
-    let own : List (List Term) = kept_of c.args.second.now (slice c.args.from c.args.upto c.args.entries.now) in
+    let behind : List (List Term) = kept_of c.args.first.now c.args.mine.now in
+    let own : List (List Term) = kept_of c.args.second.now c.args.others.now in
     let told : (b : Bool) → c.repeats_between.result ≡ b → is_left_out (terms) (behind ++ own) ≡ (b || repeats (terms) (own)) = λ b e. by_repeats _ _ (behind) (own) c.requires.1.accepted c.requires.2.on (omega (arith, c.if-condition-eq0.false))
     ∙ ap (λ (p : Bool). p || repeats (terms) (own)) (sym c.repeats_between.ensures ∙ e) in
     sym (told true c.if-repeats_between.true)
@@ -40,8 +39,8 @@ returns-then-repeats_between c =
 pub returns : goal.returns
 returns c =
     let terms : List Term = terms_from c.args.second.now c.args.condition.head.0 in
-    let behind : List (List Term) = kept_of c.args.first.now (slice 0 c.args.from c.args.entries.now) in
-    let own : List (List Term) = kept_of c.args.second.now (slice c.args.from c.args.upto c.args.entries.now) in
+    let behind : List (List Term) = kept_of c.args.first.now c.args.mine.now in
+    let own : List (List Term) = kept_of c.args.second.now c.args.others.now in
     let told : (b : Bool) → c.repeats_between.result ≡ b → is_left_out (terms) (behind ++ own) ≡ (b || repeats (terms) (own)) = λ b e. by_repeats _ _ (behind) (own) c.requires.1.accepted c.requires.2.on (omega (arith, c.if-condition-eq0.false))
     ∙ ap (λ (p : Bool). p || repeats (terms) (own)) (sym c.repeats_between.ensures ∙ e) in
     c.repeats_between-2.ensures ∙ sym (told false c.if-repeats_between.false)

@@ -4,4 +4,4 @@ use Rattle.repeats.proofs.Seeking.{Seeking}
 use Rattle.repeats.proofs.kept.repeats_between.Given as goal
 
 abbrev pub invariant-loop-entry : goal.invariant-loop-entry
-invariant-loop-entry l = Seeking (terms_from l.sheet l.condition.head.0) l.other l.entry-items l.entry-index
+invariant-loop-entry l = Seeking (terms_from l.sheet l.condition.head.0) l.other l.entries l.entry-index
