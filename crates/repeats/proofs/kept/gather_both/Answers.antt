@@ -6,23 +6,26 @@ use Rattle.sheet.proofs.Accepted.{sound}
 use Rattle.sheet.proofs.Conditions.{terms-length}
 use Rattle.repeats.specs.Inner.{EntryOf}
 use Rattle.repeats.proofs.Entered.{entered}
+use borrow.Author.Rules.{rules}
 use Rattle.repeats.proofs.kept.gather_both.Goals as goal
 
 -- Neither sheet has more conditions than a sheet may have.
 pub gather-kept-requires : goal.gather-kept-requires
 gather-kept-requires c =
     let limit = (sound c.args.first.now c.requires.0.accepted).header.conditions in
-    (c.requires.0, c.requires.0, tt, omega (arith, c.requires.0.counted, c.requires.2, limit))
+    let limit' = (sound c.args.second.now c.requires.1.accepted).header.conditions in
+    (search rules, search rules, tt, omega (arith, limit, limit', c.requires.0.counted, c.requires.1.counted, c.requires.2))
 
 pub gather-more-requires : goal.gather-more-requires
 gather-more-requires c =
     let limit = (sound c.args.first.now c.requires.0.accepted).header.conditions in
     let limit' = (sound c.args.second.now c.requires.1.accepted).header.conditions in
-    let kept = c.gather-kept.ensures in (
-      c.requires.0,
-      c.requires.1,
-      subst (All (EntryOf c.args.first.now)) (sym c.split_at_mut-mine.ensures.front) kept.entered,
-      omega (arith, kept.few, limit, limit', c.requires.0.counted, c.requires.1.counted, c.requires.2, c.gather-kept.auto.others, c.split_at_mut-mine.ensures.back_len),
+    let kept = c.gather-kept.ensures in
+    let cut = c.split_at_mut-mine.ensures in (
+      search rules,
+      search rules,
+      subst (All (EntryOf _)) (sym cut.front) kept.entered,
+      omega (arith, kept.few, limit, limit', c.requires.0.counted, c.requires.1.counted, c.requires.2, c.gather-kept.auto.others, cut.back_len),
     )
 
 pub overflow_add-result-2 : goal.overflow_add-result-2
