@@ -56,7 +56,7 @@ impl<'a> Text<'a> {
         self.word(b"\n");
     }
 
-    // A refusal.
+    // A refusal, by its two numbers: the line is defined for any (`refused_line`), and promised for any.
     pub fn refused_line(&mut self, check: u32, place: u32)
         requires { HasRoom self.old (refused_line check place) }
         ensures { Appends self.old self.new (refused_line check place) }
