@@ -46,7 +46,11 @@ impl Values for Header {
     ghost answer = { λ h. answered h.lots h.conditions h.records };
 
     fn numbers(self) -> Numbers {
-        answered(self.lots as u32, self.conditions as u32, self.records as u32)
+        answered(
+            self.lots as u32,
+            self.conditions as u32,
+            self.records as u32,
+        )
     }
 }
 
