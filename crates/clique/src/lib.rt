@@ -23,9 +23,6 @@ pub struct First {
 // The highest limit.
 const MOST_LIMIT: u32 = 129;
 
-// The number of the check that a limit can be asked for.
-pub const ILL_LIMITED: u32 = 20;
-
 // Whether a limit is none that can be asked for, by all of its 32 bits.
 pub fn ill_limited(limit: u32) -> bool
     ensures { result ≡ ill_limited limit }
@@ -111,11 +108,9 @@ fn first_listed(list: &[u8], bytes: &[u8], table: usize) -> Option<(Lot, Lot)>
     requires { Listed list.now × Room bytes.now table }
     ensures { found_as result ≡ clique_or_split (mark_at bytes.now table) list.now }
 {
-    let mut low: usize = 0;
-    while low < list.len() {
-        let high = unmarked_behind(list, bytes, table, low);
-        if high < list.len() {
-            return Some((Lot(list[low] as u16), Lot(list[high] as u16)));
+    for (low, x) in list.iter().enumerate() {
+        if let Some(y) = unmarked_in(&list[low + 1..], bytes, table, *x) {
+            return Some((Lot(u16::from(*x)), Lot(u16::from(y))));
         }
     }
     None
@@ -155,10 +150,9 @@ pub fn first_open(
         return None;
     }
     let class = lots[x];
-    if (class as usize) == x {
-        let high = unmarked_with(lots, bytes, table, class, y, end);
-        if high < end {
-            return Some((Lot(x as u16), Lot(high as u16)));
+    if usize::from(class) == x {
+        if let Some(high) = unmarked_with(lots, bytes, table, class, y, end) {
+            return Some((Lot(u16::from(class)), Lot(u16::from(high))));
         }
     }
     first_among(lots, bytes, table, x + 1, end)

@@ -103,7 +103,8 @@ fn left_out(
     repeats_between(second, m2, condition, second, m2, others)
 }
 
-// Enters each condition of the second sheet that stays behind those of the first sheet that have an entry.
+// Enters each condition of the second sheet that stays behind those of the first sheet that have an entry. Entries are counted by hand, since not every
+// condition gets one.
 fn gather(first: &[u8], m1: u16, mine: &[u32], second: &[u8], m2: u16, others: &mut [u32]) -> Kept
     requires { HasConditions first.now m1 × HasConditions second.now m2
         × All (EntryOf first.now) mine.now × (m2 ≤ length others.old) }
