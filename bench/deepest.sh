@@ -8,11 +8,11 @@ tools/archive.sh > /dev/null
 copy=target/deepest
 mkdir -p "$copy"
 cp target/staticlib/liblihumbay.a "$copy/"
-# The reader's answer goes where rdi says: the case, 0 for accepted, and from byte 2 on the three counts. In rsi stands the sheet's address.
+# The reader's answer goes where rdi says: the case, 0 for a header, and from byte 2 on its three counts. In rsi stands the sheet's address.
 as -o "$copy/reader.o" - <<'END'
     movzwl 4(%rsi), %ecx
     movl (%rsi), %eax
-    movb $0, (%rdi)
+    movw $0, (%rdi)
     movl %eax, 2(%rdi)
     movw %cx, 6(%rdi)
     ret

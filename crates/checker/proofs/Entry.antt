@@ -9,8 +9,7 @@ use borrow.Author.Tests.{ltb-false}
 use lib.Dec.{eqb, ltb}
 use lib.ListN.{length}
 use Rattle.sheet.specs.Format.{lowest_lot}
-use Rattle.sheet.specs.declared.Verdict.{Verdict}
-use Rattle.sheet.specs.declared.Verdict.TheVariants.{Passes, Refuses}
+use Rattle.sheet.specs.Verdicts.{Verdict, Passes, Refuses}
 use Rattle.sheet.specs.Checks.{Accepted, or_else, refuses_if, first_refusal, sheet_verdict}
 use Rattle.sheet.specs.Answers.{refused, answered, answer_of}
 use Rattle.sheet.proofs.Further.{further, further_accepted}
@@ -21,8 +20,10 @@ use Rattle.store.specs.Records.{record_length, most_nodes}
 use Rattle.refutation.specs.Refutation.{check10, walk_verdict, list_verdict_under, check_answer_under, list_verdict, check_answer}
 use Rattle.refutation.proofs.Sound.{refutation_sound_under}
 use Rattle.refutation.proofs.Smaller.{admitted_first}
-use Rattle.checker.specs.declared.CheckAnswer.{CheckAnswer}
-use Rattle.checker.specs.Answers.{checked_answer, case_of, PassedExactly, PassedMeans, PassedExactlyUnder, PassedMeansUnder}
+use Rattle.std.specs.Prelude.{Result, Ok, Err}
+use Rattle.sheet.specs.declared.refusal.Refusal.{Refusal}
+use Rattle.sheet.specs.Refusals.{check_of, place_of, verdict_of}
+use Rattle.checker.specs.Answers.{checked_answer, PassedExactly, PassedMeans, PassedExactlyUnder, PassedMeansUnder}
 
 -- ---- the tests before the walk
 
@@ -75,27 +76,41 @@ module _ (limit : Limit) (s list : List ℕ) where
 
   -- ---- what is ensured
 
-  abbrev pub Ensured : CheckAnswer → Type 0
-  Ensured r = (checked_answer r ≡ check_answer_under limit lowest_lot s list) × (PassedExactlyUnder limit r s list × PassedMeansUnder limit r s)
+  abbrev pub Ensured : Result (Unit {0}) Refusal → Type 0
+  Ensured r =
+      record {
+        answer : checked_answer r ≡ check_answer_under limit lowest_lot s list;
+        passed : PassedExactlyUnder limit r s list;
+        meaning : PassedMeansUnder limit r s;
+      }
 
-  pub ensured : (v : Verdict) → list_verdict_under limit lowest_lot s list ≡ v → Ensured (case_of v)
+  pub ensured : (r : Result (Unit {0}) Refusal) → list_verdict_under limit lowest_lot s list ≡ verdict_of r → Ensured r
   unfolding check_answer_under
-  ensured Passes e = (
-    sym (ap (λ (w : Verdict). answer_of w (answered 0 0 0)) e),
-    (((λ _. e), (λ _. refl)), (λ _ f keeps. refutation_sound_under limit s list e ℕ_discrete f keeps)),
-  )
-  ensured (Refuses check place) e = (
-    sym (ap (λ (w : Verdict). answer_of w (answered 0 0 0)) e),
-    (((λ passed. absurd (never passed)), (λ passes. let z : ◌≡◌ {A = ℕ} 0 1 = cc in absurd (omega arith))), (λ passed. absurd (never passed))),
-  )
+  ensured (Ok passed) e =
+      record {
+        answer = sym (ap (λ (w : Verdict). answer_of w (answered 0 0 0)) e);
+        passed = ((λ _. e), (λ _. refl));
+        meaning = λ _ f keeps. refutation_sound_under limit s list e ℕ_discrete f keeps;
+      }
+  ensured (Err r) e =
+      record {
+        answer = sym (ap (λ (w : Verdict). answer_of w (answered 0 0 0)) e);
+        passed = ((λ passed. absurd (never passed)), (λ passes. let z : ◌≡◌ {A = ℕ} 0 1 = cc in absurd (omega arith)));
+        meaning = λ passed. absurd (never passed);
+      }
     where
-      never : refused check place ≡ answered 0 0 0 → ⊥
+      never : refused (check_of r) (place_of r) ≡ answered 0 0 0 → ⊥
       never q = let z : ◌≡◌ {A = ℕ} 0 1 = cc in omega arith
 
 -- Without a limit every assignment keeps it.
 module _ (s list : List ℕ) where
-  abbrev pub EnsuredUnlimited : CheckAnswer → Type 0
-  EnsuredUnlimited r = (checked_answer r ≡ check_answer s list) × (PassedExactly r s list × PassedMeans r s)
+  abbrev pub EnsuredUnlimited : Result (Unit {0}) Refusal → Type 0
+  EnsuredUnlimited r =
+      record {
+        answer : checked_answer r ≡ check_answer s list;
+        passed : PassedExactly r s list;
+        meaning : PassedMeans r s;
+      }
 
-  pub ensured_unlimited : (v : Verdict) → list_verdict s list ≡ v → EnsuredUnlimited (case_of v)
-  ensured_unlimited v e = let h = ensured unlimited s list v e in (h.0, (h.1.0, (λ passed f. h.1.1 passed f tt)))
+  pub ensured_unlimited : (r : Result (Unit {0}) Refusal) → list_verdict s list ≡ verdict_of r → EnsuredUnlimited r
+  ensured_unlimited r e = let h = ensured unlimited s list r e in record { answer = h.answer; passed = h.passed; meaning = λ passed f. h.meaning passed f tt }

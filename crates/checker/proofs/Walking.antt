@@ -9,13 +9,14 @@ use lib.Dec.{eqb}
 use lib.ListN.{length, get_or, drop, drop_of_length-le}
 use lib.Seq.{drop-cons}
 use Rattle.sheet.specs.Format.{lowest_lot}
-use Rattle.sheet.specs.declared.Verdict.TheVariants.{Refuses}
+use Rattle.sheet.specs.Verdicts.{Refuses}
 use Rattle.sheet.proofs.Ranges.{length_along, get_or_along}
 use Rattle.limit.specs.Meaning.{Limit}
 use Rattle.store.specs.Records.{NodeRecord, no_record, record_length, record_at, records_of}
 use Rattle.refutation.specs.Refutation.{walk_record, walk_from, walk_verdict}
 use Rattle.path.specs.Paths.{path_of}
-use Rattle.steps.specs.declared.Step.{Step}
+use Rattle.std.specs.Prelude.{Option, Result}
+use Rattle.sheet.specs.declared.refusal.Refusal.{Refusal}
 use Rattle.steps.specs.Steps.{Rest, WalkRest, step_as, none_left}
 
 module _ (list : List ℕ) where
@@ -59,7 +60,7 @@ module _ (limit : Limit) (s list : List ℕ) where
   walking_start path = refl
 
   -- What a step at record r comes to is what the walk does,
-  pub walking_step : (path path' : List ℕ) (depth r : ℕ) → Walking path depth r → 1 ≤ r → r ≤ length list / record_length → (v : Step)
+  pub walking_step : (path path' : List ℕ) (depth r : ℕ) → Walking path depth r → 1 ≤ r → r ≤ length list / record_length → (v : Result (Option ℕ) Refusal)
       → ((walk_rest : WalkRest) (rest : Rest) → eqb r (length list / record_length) ≡ none_left rest
       → walk_record limit lowest_lot s walk_rest rest r (path_of path depth) (record_at list r) ≡ step_as walk_rest (r + 1) path' v)
       → walk_verdict limit lowest_lot s list ≡ step_as (walk_from limit lowest_lot s (drop r (records_of list))) (r + 1) path' v

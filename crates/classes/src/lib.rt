@@ -18,14 +18,15 @@ pub struct Classes {
     pub lots: [u8; ENTRIES],
 }
 
-// A lot's smallest lot, and the map.
+// A lot's smallest lot, and the map: handed back, since the law has the map by value with methods that do so
+// (docs/DECISIONS.md, "Language forms").
 #[derive(Clone, Copy)]
 pub struct Smallest {
     pub classes: Classes,
     pub lot: Lot,
 }
 
-// Whether the classes of two lots are marked apart, and the map.
+// Whether the classes of two lots are marked apart, and the map, handed back for the same reason.
 #[derive(Clone, Copy)]
 pub struct Marked {
     pub classes: Classes,
@@ -37,10 +38,8 @@ pub fn separate(lots: &mut [u8])
     requires { length lots.old ≡ entries }
     ensures { lots.new ≡ classes [] }
 {
-    let mut i: usize = 0;
-    while i < lots.len() {
-        lots[i] = i as u8;
-        i += 1;
+    for (i, lot) in lots.iter_mut().enumerate() {
+        *lot = i as u8;
     }
 }
 
@@ -48,14 +47,7 @@ pub fn separate(lots: &mut [u8])
 fn joined(x: u8, y: u8, z: u8) -> u8
     ensures { result ≡ cond (eqb z x || eqb z y) (min x y) z }
 {
-    let smaller = if x < y { x } else { y };
-    if z == x {
-        return smaller;
-    }
-    if z == y {
-        return smaller;
-    }
-    z
+    if z == x || z == y { x.min(y) } else { z }
 }
 
 // The classes x and y become one: every lot of both gets the smaller of the two numbers. A class that is known by 0 stays so: by one join after the other lot
@@ -64,10 +56,8 @@ pub fn join_entries(lots: &mut [u8], x: u8, y: u8)
     ensures joined { lots.new ≡ merged x y lots.old }
     ensures zero { class_of lots.old 0 ≡ 0 → class_of lots.new 0 ≡ 0 }
 {
-    let mut i: usize = 0;
-    while i < lots.len() {
-        lots[i] = joined(x, y, lots[i]);
-        i += 1;
+    for lot in lots.iter_mut() {
+        *lot = joined(x, y, *lot);
     }
 }
 
@@ -104,11 +94,9 @@ impl Classes {
         ensures joined { result.lots ≡ merged (class_of self.lots a.0) (class_of self.lots b.0) self.lots }
         ensures zero { class_of self.lots 0 ≡ 0 → class_of result.lots 0 ≡ 0 }
     {
-        let first = a.0 as usize;
-        let second = b.0 as usize;
         let mut lots = self.lots;
-        let x = lots[first];
-        let y = lots[second];
+        let x = lots[usize::from(a.0)];
+        let y = lots[usize::from(b.0)];
         join_entries(&mut lots, x, y);
         Classes { lots }
     }
@@ -118,11 +106,10 @@ impl Classes {
         requires { lot.0 ≤ most_lots }
         ensures { (result.classes ≡ self) × (result.lot.0 ≡ class_of self.lots lot.0) }
     {
-        let i = lot.0 as usize;
-        let smallest = self.lots[i];
+        let smallest = self.lots[usize::from(lot.0)];
         Smallest {
             classes: self,
-            lot: Lot(smallest as u16),
+            lot: Lot(u16::from(smallest)),
         }
     }
 
@@ -133,22 +120,15 @@ impl Classes {
         ensures classes { result.classes ≡ self }
         ensures marked { result.marked ≡ marked self.lots (set_apart pairs.now count) (class_of self.lots a.0) (class_of self.lots b.0) }
     {
-        let first = a.0 as usize;
-        let second = b.0 as usize;
-        let x = self.lots[first];
-        let y = self.lots[second];
+        let x = self.lots[usize::from(a.0)];
+        let y = self.lots[usize::from(b.0)];
         let both = x ^ y;
-        let mut left = count;
-        while 0 < left {
-            left -= 1;
+        for left in (0..count).rev() {
             let p = pairs[2 * left];
             let q = pairs[2 * left + 1];
-            let u = self.lots[p as usize];
-            let v = self.lots[q as usize];
-            if u ^ v != both {
-                continue;
-            }
-            if between(x, y, u, v) {
+            let u = self.lots[usize::from(p)];
+            let v = self.lots[usize::from(q)];
+            if u ^ v == both && between(x, y, u, v) {
                 return Marked {
                     classes: self,
                     marked: true,
@@ -167,11 +147,9 @@ pub fn write_grouping(grouping: &mut [u8], map: Classes)
     requires { (length grouping.old ≤ most_lots) × ClassesWithin map.lots }
     ensures { grouping.new ≡ take (length grouping.old) (drop 1 map.lots) }
 {
-    let mut i: usize = 0;
-    while i < grouping.len() {
-        let lot = Lot((i + 1) as u16);
-        let smallest = map.smallest_lot(lot);
-        grouping[i] = smallest.lot.0 as u8;
-        i += 1;
+    // No `copy_from_slice`: the law has the grouping read by `smallest_lot`, and with a copy each level of the search takes 128 bytes more of the stack.
+    for (i, smallest) in grouping.iter_mut().enumerate() {
+        let found = map.smallest_lot(Lot((i + 1) as u16));
+        *smallest = found.lot.0 as u8;
     }
 }

@@ -1,15 +1,15 @@
 // Which limits can be asked for, the classes that one looks at, and their pairs: by a class map and a table of marks, from any pair on.
 #![tactic(auto)]
 
-ghost use Rattle.std.specs.Prelude.{◌≡◌, cond, suc, ◌≤◌, ◌<◌, ltb, length, take, drop};
+ghost use Rattle.std.specs.Prelude.{◌≡◌, suc, ◌≤◌, length, take};
 ghost use Rattle.sheet.specs.Format.{most_lots};
-ghost use Rattle.equality.specs.Node.{Node, split, class_of};
+ghost use Rattle.equality.specs.Node.{Node};
 ghost use Rattle.limit.specs.Meaning.{ill_limited};
 ghost use Rattle.limit.specs.Rule.{smallest_from, split_with, clique_or_split};
 ghost use Rattle.limit.specs.Scan.{classes_from, classes_up_to, pairs_at};
 ghost use Rattle.classes.specs.Maps.{ClassMap};
 ghost use Rattle.marks.specs.Marks.{Room, mark_at};
-ghost use Rattle.clique.specs.Found.{found_as, Listed};
+ghost use Rattle.clique.specs.Found.{found_as, found_with, Listed};
 
 use sheet::Lot;
 
@@ -20,21 +20,8 @@ pub struct First {
     pub end: usize,
 }
 
-// The first pair of classes that aren't marked apart, the lower first; or that there is none, and they are a clique.
-#[derive(Clone, Copy)]
-pub enum Found {
-    Open(Lot, Lot),
-    Clique,
-}
-
 // The highest limit.
 const MOST_LIMIT: u32 = 129;
-
-// Where a limit is 0 there is none.
-pub const NO_LIMIT: u16 = 0;
-
-// The number of the check that a limit can be asked for.
-pub const ILL_LIMITED: u32 = 20;
 
 // Whether a limit is none that can be asked for, by all of its 32 bits.
 pub fn ill_limited(limit: u32) -> bool
@@ -50,91 +37,94 @@ pub fn first_classes(lots: &[u8], n: u16, limit: u16) -> First
     ensures count { result.count ≡ length (smallest_from lots.now result.end 0) }
     ensures first { take (suc limit) (classes_up_to lots.now n) ≡ smallest_from lots.now result.end 0 }
 {
-    let last = n as usize;
-    let most = limit as usize;
+    let most = usize::from(limit);
+    let all = usize::from(n) + 1;
     let mut count: usize = 0;
-    let mut end: usize = 0;
-    while end <= last && count <= most {
-        if (lots[end] as usize) == end {
+    for end in 0..all {
+        if most < count {
+            return First { count, end };
+        }
+        if usize::from(lots[end]) == end {
             count += 1;
         }
-        end += 1;
     }
-    First { count, end }
+    First { count, end: all }
 }
 
-// The first class, from lot `from` on and below lot `end`, that isn't marked with the class x; `end` where there is none.
-fn unmarked_with(lots: &[u8], bytes: &[u8], table: usize, x: u8, from: usize, end: usize) -> usize
+// The first class, from lot `from` on and below lot `end`, that isn't marked with the class x.
+fn unmarked_with(
+    lots: &[u8],
+    bytes: &[u8],
+    table: usize,
+    x: u8,
+    from: usize,
+    end: usize,
+) -> Option<u8>
     requires { ClassMap lots.now × Room bytes.now table × (x ≤ most_lots) × (end ≤ suc most_lots) }
-    ensures { (others : Node) → split_with (mark_at bytes.now table) x (classes_from lots.now end from) others ≡ cond (ltb result end) (split x result) others }
+    ensures { (others : Node) → split_with (mark_at bytes.now table) x (classes_from lots.now end from) others ≡ found_with x result others }
 {
-    let mut y = from;
-    while y < end {
+    for y in from..end {
         let class = lots[y];
-        if (class as usize) == y {
-            if !marks::is_marked(bytes, table, x, class) {
-                return y;
-            }
+        if usize::from(class) == y && !marks::is_marked(bytes, table, x, class) {
+            return Some(class);
         }
-        y += 1;
     }
-    end
+    None
 }
 
-// Writes the classes from lot `from` on and below lot `end` into a list, each by its smallest lot, rising, and answers how many there are.
+// Writes the classes from lot `from` on and below lot `end` into a list, each by its smallest lot, rising, and answers how many there are. They are counted by hand, since not
+// every lot is one.
 fn list_classes(lots: &[u8], from: usize, end: usize, list: &mut [u8]) -> usize
     requires { ClassMap lots.now × (end ≤ suc most_lots) × (length list.old ≡ suc most_lots) }
     ensures count { result ≤ suc most_lots }
     ensures listed { take result list.new ≡ classes_from lots.now end from }
 {
     let mut count: usize = 0;
-    let mut lot = from;
-    while lot < end {
+    for lot in from..end {
         let class = lots[lot];
-        if (class as usize) == lot {
+        if usize::from(class) == lot {
             list[count] = class;
             count += 1;
         }
-        lot += 1;
     }
     count
 }
 
-// The first class of a list, behind the one at place `low`, that isn't marked with that one: its place, or the list's length where there is none.
-fn unmarked_behind(list: &[u8], bytes: &[u8], table: usize, low: usize) -> usize
-    requires { Listed list.now × Room bytes.now table × (low < length list.now) }
-    ensures { (others : Node) → split_with (mark_at bytes.now table) (class_of list.now low) (drop (suc low) list.now) others
-        ≡ cond (ltb result (length list.now)) (split (class_of list.now low) (class_of list.now result)) others }
+// The first class of a list that isn't marked with the class x.
+fn unmarked_in(list: &[u8], bytes: &[u8], table: usize, x: u8) -> Option<u8>
+    requires { Listed list.now × Room bytes.now table × (x ≤ most_lots) }
+    ensures { (others : Node) → split_with (mark_at bytes.now table) x list.now others ≡ found_with x result others }
 {
-    let mut high = low + 1;
-    while high < list.len() {
-        if !marks::is_marked(bytes, table, list[low], list[high]) {
-            return high;
+    for y in list {
+        if !marks::is_marked(bytes, table, x, *y) {
+            return Some(*y);
         }
-        high += 1;
     }
-    list.len()
+    None
 }
 
-// The first pair of a list's classes that aren't marked apart.
-fn first_listed(list: &[u8], bytes: &[u8], table: usize) -> Found
+// The first pair of a list's classes that aren't marked apart, the lower first; none where they are a clique.
+fn first_listed(list: &[u8], bytes: &[u8], table: usize) -> Option<(Lot, Lot)>
     requires { Listed list.now × Room bytes.now table }
     ensures { found_as result ≡ clique_or_split (mark_at bytes.now table) list.now }
 {
-    let mut low: usize = 0;
-    while low < list.len() {
-        let high = unmarked_behind(list, bytes, table, low);
-        if high < list.len() {
-            return Found::Open(Lot(list[low] as u16), Lot(list[high] as u16));
+    for (low, x) in list.iter().enumerate() {
+        if let Some(y) = unmarked_in(&list[low + 1..], bytes, table, *x) {
+            return Some((Lot(u16::from(*x)), Lot(u16::from(y))));
         }
-        low += 1;
     }
-    Found::Clique
+    None
 }
 
 // The first pair of the classes from lot `from` on and below lot `end` that aren't marked apart. The classes are listed first, so that their pairs cost no more
 // than their square, however many lots stand between them.
-fn first_among(lots: &[u8], bytes: &[u8], table: usize, from: usize, end: usize) -> Found
+fn first_among(
+    lots: &[u8],
+    bytes: &[u8],
+    table: usize,
+    from: usize,
+    end: usize,
+) -> Option<(Lot, Lot)>
     requires { ClassMap lots.now × Room bytes.now table × (end ≤ suc most_lots) }
     ensures { found_as result ≡ clique_or_split (mark_at bytes.now table) (classes_from lots.now end from) }
 {
@@ -143,20 +133,26 @@ fn first_among(lots: &[u8], bytes: &[u8], table: usize, from: usize, end: usize)
     first_listed(&list[..count], bytes, table)
 }
 
-// The first pair of classes below lot `end` that aren't marked apart, from the lots x and y on: the pairs of x lot by lot, since most often one of them is found,
-// and then those of the classes behind it.
-pub fn first_open(lots: &[u8], bytes: &[u8], table: usize, x: usize, y: usize, end: usize) -> Found
+// The first pair of classes below lot `end` that aren't marked apart, the lower first, from the lots x and y on; none where they are a clique. The pairs of x are
+// looked at lot by lot, since most often one of them is found, and then those of the classes behind it.
+pub fn first_open(
+    lots: &[u8],
+    bytes: &[u8],
+    table: usize,
+    x: usize,
+    y: usize,
+    end: usize,
+) -> Option<(Lot, Lot)>
     requires { ClassMap lots.now × Room bytes.now table × (x ≤ y) × (end ≤ suc most_lots) }
     ensures { found_as result ≡ pairs_at (mark_at bytes.now table) lots.now end x y }
 {
     if end <= x {
-        return Found::Clique;
+        return None;
     }
     let class = lots[x];
-    if (class as usize) == x {
-        let high = unmarked_with(lots, bytes, table, class, y, end);
-        if high < end {
-            return Found::Open(Lot(x as u16), Lot(high as u16));
+    if usize::from(class) == x {
+        if let Some(high) = unmarked_with(lots, bytes, table, class, y, end) {
+            return Some((Lot(u16::from(class)), Lot(u16::from(high))));
         }
     }
     first_among(lots, bytes, table, x + 1, end)

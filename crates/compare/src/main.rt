@@ -14,14 +14,15 @@
 // difference is counted wherever two answers differ. tests/make_compare.py writes the input, and the output too: by its own search, its own checker and its
 // own second solver.
 //
-// The second solver and the second statement of the checks are the crate `second_solver`, the generator is `generator`. The services' answers as numbers, what is
-// damaged and what is counted are the crate `trials`.
+// The second solver and the second statement of the checks are the crate `second_solver`, the generator is `generator`. The services' answers in its
+// terms, what is damaged and what is counted are the crate `trials`.
 #![tactic(auto)]
 
 mod examine; // examine.rt: one sheet, before all solvers and services
 mod groups; // groups.rt: the groups of sheets
 mod say; // say.rt: the lines of the output
 
+use examine::Counts;
 use std::io;
 use std::io::{Read, Write};
 
@@ -36,16 +37,17 @@ fn main(rt: HostRuntime) -> io::Result<()> {
 
 // All groups of sheets, what was damaged, and the lists that are not of a search.
 fn run(text: &[u8], out: &mut impl Write) -> io::Result<()> {
-    let generated = groups::generated_groups(out)?;
-    let counts = groups::lines(text, generated, out)?;
-    say::damage("damaged lists", counts.lists, out)?;
-    say::damage("damaged sheets", counts.sheets, out)?;
-    say::damage("withdrawn conditions", counts.withdrawn, out)?;
+    let mut counts = Counts::default();
+    groups::generated_groups(&mut counts, out)?;
+    groups::lines(text, &mut counts, out)?;
+    writeln!(out, "damaged lists: {}", counts.lists)?;
+    writeln!(out, "damaged sheets: {}", counts.sheets)?;
+    writeln!(out, "withdrawn conditions: {}", counts.withdrawn)?;
     say::ground_of_withdrawn(out)?;
     say::ground_of_zero(out)?;
-    say::split(0, 0, out)?;
-    say::split(0, 1, out)?;
-    say::split(1, 0, out)?;
+    for (a, b) in [(0, 0), (0, 1), (1, 0)] {
+        say::split(a, b, out)?;
+    }
     say::splits(1024, out)?;
     say::splits(1025, out)
 }

@@ -1,51 +1,15 @@
-// The lines of the output.
+// The lines of the output on lists that are not of a search: what the checker says of each.
 ghost use Rattle.std.specs.Prelude.{◌≤◌};
 
-use second_solver::Answer;
+use second_solver::Refusal;
 use std::io;
 use std::io::Write;
 use trials::splits;
-use trials::tally::{Damage, Tally};
 
-// The line of a group, after its name.
-pub fn tally(tally: Tally, out: &mut impl Write) -> io::Result<()> {
-    let Tally {
-        sheets,
-        met,
-        cannot,
-        refused,
-        nodes,
-        untested,
-        differ,
-    } = tally;
-    writeln!(
-        out,
-        ": sheets {sheets} met {met} cannot {cannot} refused {refused} nodes {nodes} untested {untested} differ {differ}",
-    )
-}
-
-pub fn damage(label: &str, damage: Damage, out: &mut impl Write) -> io::Result<()> {
-    let Damage {
-        tried,
-        passed,
-        wrong,
-        untested,
-        differ,
-    } = damage;
-    writeln!(
-        out,
-        "{label}: tried {tried} passed {passed} wrong {wrong} untested {untested} differ {differ}",
-    )
-}
-
-// What the checker says of a list.
-fn checked(answer: Answer, out: &mut impl Write) -> io::Result<()> {
-    if answer.kind == 1 {
-        writeln!(out, ": passed")
-    } else {
-        let check = answer.first;
-        let place = answer.second;
-        writeln!(out, ": refused {check} {place}")
+fn checked(answer: Result<(), Refusal>, out: &mut impl Write) -> io::Result<()> {
+    match answer {
+        Ok(()) => writeln!(out, ": passed"),
+        Err(Refusal { check, place }) => writeln!(out, ": refused {check} {place}"),
     }
 }
 

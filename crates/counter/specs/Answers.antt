@@ -1,14 +1,12 @@
 -- The cases of a service that counts unmet conditions, in the documents' numbers, and what a count says of meaning.
-use Rattle.std.specs.Prelude.{ℕ, ◌≤◌, List, ◌↔◌, ◌≡◌}
+use Rattle.std.specs.Prelude.{ℕ, ◌≤◌, List, Result, ◌↔◌, ◌≡◌}
 use Rattle.sheet.specs.Format.{condition_count}
-use Rattle.sheet.specs.Answers.{Answer, refused, answered}
+use Rattle.sheet.specs.declared.refusal.Refusal.{Refusal}
+use Rattle.sheet.specs.Answers.{Answer, refused, answered, result_answer}
 use Rattle.equality.specs.Evaluator.{evaluate_answer, GroupingMeets}
-use Rattle.counter.specs.declared.Counting.{Counting}
-use Rattle.counter.specs.declared.Counting.TheVariants.{Count, Refused}
 
-abbrev pub counting_answer : Counting → Answer
-counting_answer (Count count) = answered count 0 0
-counting_answer (Refused check place) = refused check place
+abbrev pub counting_answer : Result ℕ Refusal → Answer
+counting_answer = result_answer (λ count. answered count 0 0)
 
 -- What a count says: it is at most m, and 0 exactly where the evaluator answers 0, which is where the grouping meets the sheet. A refusal is the evaluator's:
 -- "with the judge's inputs and checks".

@@ -10,25 +10,14 @@ ghost use Rattle.evaluator.specs.Numbers.{number_at, Evaluable};
 ghost use Rattle.reassignment.specs.Count.{unmet_one, unmet_count, count_answer};
 ghost use Rattle.counter.specs.Answers.{counting_answer, CountMeans};
 
-use sheet::{Condition, Reading, Record};
-
-// The answer of a service that counts unmet conditions.
-#[derive(Clone, Copy)]
-pub enum Counting {
-    Count(u32),
-    Refused { check: u32, place: u32 },
-}
+use sheet::{Condition, Record, Refusal};
 
 // What the condition whose chain begins at a record counts for: 1 where it isn't met, else 0.
 pub fn unmet_one(sheet: &[u8], m: u16, numbers: &[u8], head: Record) -> u32
     requires { Evaluable sheet.now numbers.now m × OnChain sheet.now head.0 }
     ensures { result ≡ unmet_one (number_at numbers.now) (terms_from sheet.now head.0) }
 {
-    if evaluator::is_met(sheet, m, numbers, head) {
-        0
-    } else {
-        1
-    }
+    u32::from(!evaluator::is_met(sheet, m, numbers, head))
 }
 
 // The count over all conditions.
@@ -37,10 +26,8 @@ fn count_all(sheet: &[u8], m: u16, numbers: &[u8]) -> u32
     ensures { result ≡ unmet_count (number_at numbers.now) (conditions sheet.now) }
 {
     let mut count: u32 = 0;
-    let mut c: u16 = 0;
-    while c < m {
-        c += 1;
-        let head = sheet::format::head_at(sheet, Condition(c));
+    for c in 0..m {
+        let head = sheet::format::head_at(sheet, Condition(c + 1));
         count += unmet_one(sheet, m, numbers, head);
     }
     count
@@ -57,25 +44,13 @@ fn count_accepted(sheet: &[u8], n: u16, m: u16, grouping: &[u8]) -> u32
 }
 
 // The counting service, for any bytes at all: the first check that fails, or the count.
-pub fn count_unmet(sheet: &[u8], grouping: &[u8]) -> Counting
+pub fn count_unmet(sheet: &[u8], grouping: &[u8]) -> Result<u32, Refusal>
     ensures answer { counting_answer result ≡ count_answer sheet.now grouping.now }
     ensures meaning { CountMeans (counting_answer result) sheet.now grouping.now }
 {
-    let reading = reader::read(sheet);
-    match reading {
-        Reading::Refused { check, place } => Counting::Refused { check, place },
-        Reading::Accepted {
-            lots,
-            conditions,
-            records: _,
-        } => {
-            if grouping.len() < (lots as usize) {
-                return Counting::Refused {
-                    check: 8,
-                    place: lots as u32,
-                };
-            }
-            Counting::Count(count_accepted(sheet, lots, conditions, grouping))
-        }
+    let h = reader::read(sheet)?;
+    if grouping.len() < h.lots as usize {
+        return Err(Refusal::ShortGrouping(h.lots));
     }
+    Ok(count_accepted(sheet, h.lots, h.conditions, grouping))
 }

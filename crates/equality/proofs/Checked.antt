@@ -4,7 +4,7 @@ use mathlib.Core.List.{List}
 use mathlib.Core.Path.{◌≡◌}
 use native.Mathlib.Omega.{arith}
 use lib.ListN.{length}
-use Rattle.sheet.specs.declared.Verdict.TheVariants.{Passes, Refuses}
+use Rattle.sheet.specs.Verdicts.{Passes, Refuses}
 use Rattle.sheet.specs.Format.{lot_count}
 use Rattle.sheet.specs.Checks.{Accepted, sheet_verdict}
 use Rattle.sheet.proofs.Lengths.{sheet-first, too_short, long_enough, then_numbered}

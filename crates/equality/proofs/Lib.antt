@@ -18,4 +18,5 @@ pub mod Evaluator
 pub mod Agree
 pub mod Sheets
 pub mod Passing
+pub mod Walking
 pub mod Checked

@@ -1,6 +1,6 @@
 -- The evaluator (document 01, "The grouping judge"; document 02, job 5).
 use Rattle.std.specs.Prelude.{ℕ, zero, suc, cond, List, [], ◌∷◌, ◌++◌, ltb, length, get_or}
-use Rattle.sheet.specs.declared.Verdict.{Verdict}
+use Rattle.sheet.specs.Verdicts.{Verdict}
 use Rattle.sheet.specs.Format.{lowest_lot, lot_count}
 use Rattle.sheet.specs.Conditions.{Term, conditions}
 use Rattle.sheet.specs.Checks.{refuses_if, first_refusal, sheet_checks_with}

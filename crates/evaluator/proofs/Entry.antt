@@ -5,8 +5,7 @@ use mathlib.Core.List.{List, []}
 use mathlib.Core.Path.{◌≡◌, refl, sym, ap, ◌∙◌}
 use native.Mathlib.Omega.{arith}
 use lib.ListN.{length, get_or}
-use Rattle.sheet.specs.declared.Verdict.{Verdict}
-use Rattle.sheet.specs.declared.Verdict.TheVariants.{Passes, Refuses}
+use Rattle.sheet.specs.Verdicts.{Verdict, Passes, Refuses}
 use Rattle.sheet.specs.Conditions.{condition_at, conditions}
 use Rattle.sheet.specs.Answers.{answered, answer_of}
 use Rattle.sheet.proofs.Conditions.{conditions-length, conditions_at}
@@ -14,28 +13,16 @@ use Rattle.equality.specs.Meaning.{meets_condition}
 use Rattle.equality.specs.Evaluator.{grouping_verdict, number_in, lowest_unmet, evaluate_answer, evaluate_answer_with}
 use Rattle.equality.proofs.Meaning.{condition_decides}
 use Rattle.equality.proofs.Evaluator.{evaluator_zero, LowestUnmet, lowest_unmet_lem}
-use Rattle.evaluator.specs.declared.Evaluation.{Evaluation}
-use Rattle.evaluator.specs.Answers.{evaluation_answer, case_of, evaluate_case, Evaluated}
+use Rattle.std.specs.Prelude.{Option, Result, Ok, Err}
+use Rattle.sheet.specs.declared.Condition.{Condition}
+use Rattle.sheet.specs.declared.refusal.Refusal.{Refusal}
+use Rattle.sheet.specs.Refusals.{check_of, place_of}
+use Rattle.sheet.proofs.Refusals.{refusal_at-numbers}
+use Rattle.evaluator.specs.Answers.{evaluation_answer, unmet_answer, unmet_or, evaluate_case, Evaluated}
 
 module _ (s grouping : List ℕ) where
   abbrev unmet : ℕ
   unmet = lowest_unmet (number_in grouping) 1 (conditions s)
-
-  -- ---- the case and its answer
-
-  -- The checks' verdict decides.
-  pub case_by : (v : Verdict) → grouping_verdict s grouping ≡ v → case_of v unmet ≡ evaluate_case s grouping
-  unfolding evaluate_case
-  case_by v e = sym (ap (λ (w : Verdict). case_of w unmet) e)
-
-  answer_is : evaluation_answer (evaluate_case s grouping) ≡ evaluate_answer s grouping
-  unfolding evaluate_case evaluate_answer_with
-  answer_is = go (grouping_verdict s grouping) unmet
-    where
-      go : (v : Verdict) (c : ℕ) → evaluation_answer (case_of v c) ≡ answer_of v (answered c 0 0)
-      go Passes zero = refl
-      go Passes (suc c) = refl
-      go (Refuses check place) c = refl
 
   -- ---- what it means
 
@@ -65,7 +52,7 @@ module _ (s grouping : List ℕ) where
 
   -- ---- all that the entry point ensures
 
-  abbrev pub Ensured : Evaluation → Type 0
+  abbrev pub Ensured : Result (Option Condition) Refusal → Type 0
   Ensured r =
       record {
         case : r ≡ evaluate_case s grouping;
@@ -73,5 +60,17 @@ module _ (s grouping : List ℕ) where
         meaning : Evaluated (evaluation_answer r) s grouping;
       }
 
-  pub ensured : {r : Evaluation} → r ≡ evaluate_case s grouping → Ensured r
-  ensured e = let answer = ap evaluation_answer e ∙ answer_is in record { case = e; answer = answer; meaning = rw answer means }
+  -- A refusal by the verdict of the checks, and what is found where that passes.
+  pub refused_by : (e : Refusal) → grouping_verdict s grouping ≡ Refuses (check_of e) (place_of e) → Ensured (Err e)
+  unfolding evaluate_case evaluate_answer_with
+  refused_by e by = record { case = rw (by, refusal_at-numbers e); answer = rw by; meaning = tt }
+
+  pub found : {r : Option Condition} → grouping_verdict s grouping ≡ Passes → r ≡ unmet_or unmet → Ensured (Ok r)
+  unfolding evaluate_case evaluate_answer_with
+  found {r} passes e =
+      let answer : evaluation_answer (Ok r) ≡ evaluate_answer s grouping = rw (e, passes) (go unmet) in
+      record { case = rw (e, passes); answer = answer; meaning = rw answer means }
+    where
+      go : (c : ℕ) → unmet_answer (unmet_or c) ≡ answered c 0 0
+      go zero = refl
+      go (suc c) = refl

@@ -10,15 +10,7 @@ ghost use Rattle.equality.specs.Evaluator.{number_in, lowest_unmet, evaluate_ans
 ghost use Rattle.evaluator.specs.Answers.{evaluation_answer, unmet_or, evaluate_case, Evaluated};
 ghost use Rattle.evaluator.specs.Numbers.{number_at, Evaluable};
 
-use sheet::{Condition, Lot, Reading, Record, SAME, Term};
-
-// The evaluator's answer.
-#[derive(Clone, Copy)]
-pub enum Evaluation {
-    AllMet,
-    Unmet(Condition),
-    Refused { check: u32, place: u32 },
-}
+use sheet::{Condition, Lot, Record, Refusal, SAME, Term};
 
 // Lots 1 to n get their numbers from a grouping, lot i from byte i − 1. The other entries stay.
 pub fn number_lots(numbers: &mut [u8], grouping: &[u8], n: usize)
@@ -27,11 +19,7 @@ pub fn number_lots(numbers: &mut [u8], grouping: &[u8], n: usize)
     ensures zero { get_or numbers.new 0 0 ≡ get_or numbers.old 0 0 }
     ensures above { (j : ℕ) → n < j → get_or numbers.new j 0 ≡ get_or numbers.old j 0 }
 {
-    let mut i: usize = 0;
-    while i < n {
-        numbers[i + 1] = grouping[i];
-        i += 1;
-    }
+    numbers[1..=n].copy_from_slice(&grouping[..n]);
 }
 
 // A lot's number.
@@ -71,25 +59,23 @@ pub fn is_met(sheet: &[u8], m: u16, numbers: &[u8], head: Record) -> bool
     met
 }
 
-// The lowest condition that is not met.
-fn first_unmet(sheet: &[u8], m: u16, numbers: &[u8]) -> Evaluation
+// The lowest condition that is not met, if there is one.
+fn first_unmet(sheet: &[u8], m: u16, numbers: &[u8]) -> Option<Condition>
     requires { Evaluable sheet.now numbers.now m }
     ensures { result ≡ unmet_or (lowest_unmet (number_at numbers.now) 1 (conditions sheet.now)) }
 {
-    let mut c: u16 = 0;
-    while c < m {
-        c += 1;
-        let head = sheet::format::head_at(sheet, Condition(c));
+    for c in 0..m {
+        let head = sheet::format::head_at(sheet, Condition(c + 1));
         if !is_met(sheet, m, numbers, head) {
-            return Evaluation::Unmet(Condition(c));
+            return Some(Condition(c + 1));
         }
     }
-    Evaluation::AllMet
+    None
 }
 
 // The evaluation of an accepted sheet with n lots and m conditions, by a grouping of at least n bytes. Lot 0 has the number 0. The numbers are copied to an
 // entry for each lot, so that a term's lots, lot 0 among them, are looked up without a test.
-fn evaluate_accepted(sheet: &[u8], n: u16, m: u16, grouping: &[u8]) -> Evaluation
+fn evaluate_accepted(sheet: &[u8], n: u16, m: u16, grouping: &[u8]) -> Option<Condition>
     requires { HasConditions sheet.now m × (n ≡ lot_count sheet.now) × (n ≤ length grouping.now) }
     ensures { result ≡ unmet_or (lowest_unmet (number_in grouping.now) 1 (conditions sheet.now)) }
 {
@@ -98,27 +84,15 @@ fn evaluate_accepted(sheet: &[u8], n: u16, m: u16, grouping: &[u8]) -> Evaluatio
     first_unmet(sheet, m, &numbers)
 }
 
-// The evaluator, for any bytes at all: the first check that fails, or whether all conditions are met, or the lowest that isn't.
-pub fn evaluate(sheet: &[u8], grouping: &[u8]) -> Evaluation
+// The evaluator, for any bytes at all: the first check that fails, or the lowest condition that isn't met, if there is one.
+pub fn evaluate(sheet: &[u8], grouping: &[u8]) -> Result<Option<Condition>, Refusal>
     ensures case { result ≡ evaluate_case sheet.now grouping.now }
     ensures answer { evaluation_answer result ≡ evaluate_answer sheet.now grouping.now }
     ensures meaning { Evaluated (evaluation_answer result) sheet.now grouping.now }
 {
-    let reading = reader::read(sheet);
-    match reading {
-        Reading::Refused { check, place } => Evaluation::Refused { check, place },
-        Reading::Accepted {
-            lots,
-            conditions,
-            records: _,
-        } => {
-            if grouping.len() < (lots as usize) {
-                return Evaluation::Refused {
-                    check: 8,
-                    place: lots as u32,
-                };
-            }
-            evaluate_accepted(sheet, lots, conditions, grouping)
-        }
+    let h = reader::read(sheet)?;
+    if grouping.len() < h.lots as usize {
+        return Err(Refusal::ShortGrouping(h.lots));
     }
+    Ok(evaluate_accepted(sheet, h.lots, h.conditions, grouping))
 }

@@ -1,19 +1,16 @@
 // Bytes from their hexadecimal digits.
 #![tactic(auto)]
 
-ghost use Rattle.std.specs.Prelude.{◌≤◌, length};
+ghost use Rattle.std.specs.Prelude.{◌<◌, ◌≤◌, length, IfSome};
 
-// The byte that is no digit's value.
-const NO_DIGIT: u8 = 16;
-
-// The value of a digit, or NO_DIGIT.
-fn digit(byte: u8) -> u8
-    ensures { result ≤ 16 }
+// The value of a digit, or none.
+fn digit(byte: u8) -> Option<u8>
+    ensures { IfSome result (λ value. value < 16) }
 {
     match byte {
-        b'0'..=b'9' => byte - b'0',
-        b'a'..=b'f' => byte - 87,
-        _ => NO_DIGIT,
+        b'0'..=b'9' => Some(byte - b'0'),
+        b'a'..=b'f' => Some(byte - b'a' + 10),
+        _ => None,
     }
 }
 
@@ -22,25 +19,13 @@ fn digit(byte: u8) -> u8
 pub fn decode(text: &[u8], bytes: &mut [u8]) -> usize
     ensures { result ≤ length bytes.new }
 {
-    let mut n: usize = 0;
-    let mut high = NO_DIGIT;
-    let mut i: usize = 0;
-    while i < text.len() {
-        let value = digit(text[i]);
-        i += 1;
-        if value == NO_DIGIT {
-            continue;
-        }
-        if high == NO_DIGIT {
-            high = value;
-            continue;
-        }
-        if bytes.len() <= n {
+    let mut digits = text.iter().filter_map(|byte| digit(*byte));
+    let room = bytes.len();
+    for (n, place) in bytes.iter_mut().enumerate() {
+        let (Some(high), Some(low)) = (digits.next(), digits.next()) else {
             return n;
-        }
-        bytes[n] = 16 * high + value;
-        n += 1;
-        high = NO_DIGIT;
+        };
+        *place = high << 4 | low;
     }
-    n
+    room
 }

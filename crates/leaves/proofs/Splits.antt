@@ -1,5 +1,5 @@
 -- A loop over the path's splits, from the root on or from the latest: what a split adds to the decisions above it, and to the marks.
-use Prim.Native.Nat.{ℕ, zero, suc, ◌≤◌}
+use Prim.Native.Nat.{ℕ, zero, suc, ◌+◌, ◌≤◌, ◌<◌}
 use mathlib.Core.Bool.{Bool, true, false, cond, not, ◌||◌}
 use mathlib.Core.List.{List, [], ◌∷◌}
 use mathlib.Core.Path.{◌≡◌, refl, sym, ap, ◌∙◌}
@@ -65,13 +65,13 @@ latest_within cs x y (apart a b ∷ ds) = go (between cs x y a b) (latest_within
     go true h = omega arith
     go false h = omega arith
 
--- So by what a walk over the first n splits answers.
-module _ (cs l : List ℕ) (x y n r : ℕ) (e : r ≡ latest_between cs x y (decided l n)) where
-  pub found_marks : (r ≡ 0 → ⊥) → marked cs (decided l n) x y ≡ true
-  found_marks some = sym (latest_marks cs x y (decided l n)) ∙ rw (← e) (rw (ne_eqb r 0 some))
+-- So by the split that a walk over the first n splits finds.
+module _ (cs l : List ℕ) (x y n i : ℕ) (e : latest_between cs x y (decided l n) ≡ i + 1) where
+  pub found_marks : marked cs (decided l n) x y ≡ true
+  found_marks = sym (latest_marks cs x y (decided l n)) ∙ simp (e, ne_eqb (i + 1) 0 (λ z. omega arith))
 
-  pub found_within : r ≤ n
-  found_within = omega (arith, latest_within cs x y (decided l n), decided_length l n)
+  pub found_within : i < n
+  found_within = omega (arith, e, latest_within cs x y (decided l n), decided_length l n)
 
 module _ (cs l : List ℕ) (x y : ℕ) where
   -- Of the first n splits.

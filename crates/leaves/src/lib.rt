@@ -1,7 +1,7 @@
 // Whether a ground or a clique of a list passes, by the classes and the marks of the path above it: for the refutation checker.
 #![tactic(auto)]
 
-ghost use Rattle.std.specs.Prelude.{◌≡◌, not, ◌||◌, ◌+◌, ◌≤◌, ◌<◌, eqb};
+ghost use Rattle.std.specs.Prelude.{◌≡◌, not, ◌||◌, ◌+◌, ◌≤◌, ◌<◌, eqb, MatchOption};
 ghost use Rattle.sheet.specs.Format.{most_lots, same_sign};
 ghost use Rattle.sheet.specs.Inner.{HasConditions, OnChain};
 ghost use Rattle.sheet.specs.Conditions.{terms_from};
@@ -15,7 +15,6 @@ ghost use Rattle.classes.specs.Maps.{ClassMap};
 ghost use Rattle.marks.specs.Marks.{Room, Marks, mark_at};
 ghost use Rattle.leaves.specs.Terms.{allows, allows_classes, latest_between};
 
-use clique::Found;
 use sheet::{Condition, Record, SAME};
 
 // The table of the path: the classes of each pair that it sets apart are marked, and no others.
@@ -24,15 +23,13 @@ fn stamp(table: &mut [u8], path: &[u32], depth: usize, lots: &[u8])
     ensures { Marks table.new 0 lots.now (decisions_of (path_of path.now depth)) }
 {
     marks::clear(table, 0);
-    let mut i: usize = 0;
-    while i < depth {
+    for i in 0..depth {
         let pair = path::pair_at(path, i);
         if !pair.same {
             let a = pair.a.0 as usize;
             let b = pair.b.0 as usize;
             marks::mark(table, 0, lots[a], lots[b]);
         }
-        i += 1;
     }
 }
 
@@ -54,7 +51,7 @@ fn all_false(sheet: &[u8], m: u16, lots: &[u8], table: &[u8], head: Record) -> b
     ensures { result ≡ not (any_term (allows lots.now (mark_at table.now 0)) (terms_from sheet.now head.0)) }
 {
     let mut at = head;
-    // In runs of records that follow each other, as `node::scan` goes.
+    // In runs of records that follow each other, as the scan goes.
     'chain: while at.0 != 0 {
         loop {
             let following = at.0 + 1;
@@ -74,29 +71,27 @@ fn all_false(sheet: &[u8], m: u16, lots: &[u8], table: &[u8], head: Record) -> b
     true
 }
 
-// The latest split of the path that is set apart between the classes x and y: how many splits stand above and with it, or 0 where there is none. A pair
-// whose classes have another exclusive or is not one: one test that nearly always tells is quicker than the four.
-fn latest_between(path: &[u32], depth: usize, lots: &[u8], x: u8, y: u8) -> usize
+// The latest split of the path that is set apart between the classes x and y, by its number, counted from 0 at the root. A pair whose classes have another
+// exclusive or is not one: one test that nearly always tells is quicker than the four.
+fn latest_between(path: &[u32], depth: usize, lots: &[u8], x: u8, y: u8) -> Option<usize>
     requires { PathWithin path.now depth × ClassMap lots.now }
-    ensures { result ≡ latest_between lots.now x y (decisions_of (path_of path.now depth)) }
+    ensures { MatchOption result (latest_between lots.now x y (decisions_of (path_of path.now depth)) ≡ 0) (λ i. latest_between lots.now x y (decisions_of (path_of path.now depth)) ≡ i + 1) }
 {
     let both = x ^ y;
-    let mut left = depth;
-    while 0 < left {
-        let pair = path::pair_at(path, left - 1);
+    for i in (0..depth).rev() {
+        let pair = path::pair_at(path, i);
         if !pair.same {
             let u = lots[pair.a.0 as usize];
             let v = lots[pair.b.0 as usize];
             if u ^ v == both && classes::between(x, y, u, v) {
-                return left;
+                return Some(i);
             }
         }
-        left -= 1;
     }
-    left
+    None
 }
 
-// The first record of the chain whose term is not seen to be false, or 0: for a "same" term whose lots share no class the splits are walked over, as long as
+// The first record of the chain whose term is not seen to be false, or 0, which ends a chain: for a "same" term whose lots share no class the splits are walked over, as long as
 // those passed over so far and a whole walk more are no more than `marks::WALKED`. The split found is not counted: it is one step a term.
 fn past_false(sheet: &[u8], m: u16, path: &[u32], depth: usize, lots: &[u8], head: Record) -> Record
     requires { HasConditions sheet.now m × PathWithin path.now depth × ClassMap lots.now × OnChain sheet.now head.0 }
@@ -114,11 +109,10 @@ fn past_false(sheet: &[u8], m: u16, path: &[u32], depth: usize, lots: &[u8], hea
             if x == y || marks::WALKED < walked {
                 return at;
             }
-            let left = latest_between(path, depth, lots, x, y);
-            if left == 0 {
-                return at;
+            match latest_between(path, depth, lots, x, y) {
+                Some(i) => walked += depth - i - 1,
+                None => return at,
             }
-            walked += depth - left;
         } else if x != y {
             return at;
         }
@@ -176,9 +170,5 @@ pub fn clique_passes(
         return false;
     }
     stamp(table, path, depth, lots);
-    let found = clique::first_open(lots, table, 0, 0, 1, first.end);
-    match found {
-        Found::Open(_, _) => false,
-        Found::Clique => true,
-    }
+    clique::first_open(lots, table, 0, 0, 1, first.end).is_none()
 }

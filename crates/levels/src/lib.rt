@@ -32,10 +32,9 @@ fn copy_row(maps: &mut [u8], level: usize)
 {
     let from = ENTRIES * level;
     let to = from + ENTRIES;
-    let mut i: usize = 0;
-    while i < ENTRIES {
+    // `copy_within` takes up to a tenth more of a check's instructions: it is a call for each row, and this loop goes together with the join's.
+    for i in 0..ENTRIES {
         maps[to + i] = maps[from + i];
-        i += 1;
     }
 }
 
@@ -47,8 +46,7 @@ fn join_row(maps: &mut [u8], level: usize, x: u8, y: u8)
 {
     copy_row(maps, level);
     let to = ENTRIES * (level + 1);
-    let end = to + ENTRIES;
-    classes::join_entries(&mut maps[to..end], x, y);
+    classes::join_entries(&mut maps[to..to + ENTRIES], x, y);
 }
 
 // The level of the classes of a level with those of a and b joined: its own, where they are one already, or the next.
@@ -62,10 +60,8 @@ fn join(maps: &mut [u8], level: usize, a: Lot, b: Lot) -> usize
     ensures others { (k : ℕ) → k ≤ level → row maps.new k ≡ row maps.old k }
 {
     let from = ENTRIES * level;
-    let first = a.0 as usize;
-    let second = b.0 as usize;
-    let x = maps[from + first];
-    let y = maps[from + second];
+    let x = maps[from + usize::from(a.0)];
+    let y = maps[from + usize::from(b.0)];
     if x == y {
         return level;
     }
@@ -86,7 +82,7 @@ pub fn push(
     ensures path { path_of path.new result ≡ split_of split ∷ path_of path.old depth }
     ensures walkable { Walkable path.new maps.new levels.new result }
 {
-    let level = levels[depth] as usize;
+    let level = usize::from(levels[depth]);
     let next = join(maps, level, split.a, split.b);
     levels[depth + 1] = next as u8;
     path::push(path, depth, split)
@@ -110,6 +106,6 @@ pub fn top<'a>(maps: &'a [u8], levels: &[u8], depth: usize) -> &'a [u8]
     requires { (length maps.now ≡ maps_length) × (depth < length levels.now) × (level_under levels.now depth ≤ most_lots) }
     ensures { result.now ≡ row maps.now (level_under levels.now depth) }
 {
-    let from = ENTRIES * (levels[depth] as usize);
+    let from = ENTRIES * usize::from(levels[depth]);
     &maps[from..from + ENTRIES]
 }

@@ -5,10 +5,11 @@ use mathlib.Core.Logic.{◌↔◌}
 use mathlib.Core.Path.{◌≡◌, refl, sym, ap, ◌∙◌}
 use native.Mathlib.Omega.{arith}
 use lib.ListN.{take}
-use Rattle.sheet.specs.declared.Verdict.{Verdict}
-use Rattle.sheet.specs.declared.Verdict.TheVariants.{Passes, Refuses}
-use Rattle.sheet.specs.declared.Reading.{Reading}
-use Rattle.sheet.specs.declared.Reading.TheVariants as reading
+use Rattle.sheet.specs.Verdicts.{Verdict, Passes, Refuses}
+use Rattle.std.specs.Prelude.{Result, Ok, Err}
+use Rattle.sheet.specs.declared.Header.{Header}
+use Rattle.sheet.specs.declared.refusal.Refusal.{Refusal}
+use Rattle.sheet.specs.Refusals.{check_of, place_of}
 use Rattle.sheet.specs.Format.{lowest_lot, lot_count}
 use Rattle.sheet.specs.Conditions.{conditions}
 use Rattle.sheet.specs.Answers.{Answer, refused, answered, answer_of, read_answer, reading_answer}
@@ -34,8 +35,6 @@ use Rattle.search.specs.Promises.{FullExactly, FullPlace, MetExactly, MetGroupin
 use Rattle.search.proofs.Promised.{answer_passing}
 use Rattle.refutation.specs.Refutation.{Refutes, RefutesUnder, list_verdict_under, check_answer_under}
 use Rattle.lihumbay.proofs.Numbered.{list_numbered}
-use Rattle.checker.specs.declared.CheckAnswer.{CheckAnswer}
-use Rattle.checker.specs.declared.CheckAnswer.TheVariants as check
 use Rattle.checker.specs.Answers.{checked_answer, PassedExactlyUnder}
 use Rattle.writer.specs.Answers.{OfWritten}
 use Rattle.repack.specs.Repack.{repacked_length, repack_verdict, repack_answer, repack_answer_with}
@@ -57,10 +56,10 @@ answer_refuses (Refuses c p) first second third {check = check} {place = place} 
 -- ---- the reader
 
 -- A sheet that is refused is not accepted, and the check is not 0.
-pub zero_exactly : (s : List ℕ) (a : Reading) → reading_answer a ≡ read_answer s → ZeroExactly (numbers_of (reading_answer a)) s
-zero_exactly s (reading.Accepted n m k) answer = ((λ z. (read_accepts s n m k answer).accepted), (λ ok. refl))
-zero_exactly s (reading.Refused check place) answer =
-    let refuses = read_refuses s check place answer in (
+pub zero_exactly : (s : List ℕ) (a : Result Header Refusal) → reading_answer a ≡ read_answer s → ZeroExactly (numbers_of (reading_answer a)) s
+zero_exactly s (Ok h) answer = ((λ z. (read_accepts s h.lots h.conditions h.records answer).accepted), (λ ok. refl))
+zero_exactly s (Err r) answer =
+    let refuses = read_refuses s (check_of r) (place_of r) answer in (
       (λ z. absurd (omega (arith, z, (refusal_number (sheet_numbered s) refuses).0))),
       (λ ok. absurd (not-both ok refuses)),
     )
@@ -184,16 +183,16 @@ module _ (limit : Limit) (s list : List ℕ) where
   unfolding check_answer_under
   list_first check place e = (refusal_number (list_numbered limit s list) (answer_refuses (list_verdict_under limit lowest_lot s list) 0 0 0 e)).0
 
-  pub zero_passed : (a : CheckAnswer) → checked_answer a ≡ check_answer_under limit lowest_lot s list → PassedExactlyUnder limit a s list
+  pub zero_passed : (a : Result (Unit {0}) Refusal) → checked_answer a ≡ check_answer_under limit lowest_lot s list → PassedExactlyUnder limit a s list
       → ZeroPassedUnder limit (numbers_of (checked_answer a)) s list
-  zero_passed check.Passed answer exactly = ((λ z. exactly.0 refl), (λ passes. refl))
-  zero_passed (check.Refused number place) answer exactly =
-      ((λ z. absurd (omega (arith, z, list_first number place answer))), (λ passes. absurd (no_answer number place (exactly.1 passes))))
+  zero_passed (Ok passed) answer exactly = ((λ z. exactly.0 refl), (λ passes. refl))
+  zero_passed (Err r) answer exactly =
+      ((λ z. absurd (omega (arith, z, list_first (check_of r) (place_of r) answer))), (λ passes. absurd (no_answer (check_of r) (place_of r) (exactly.1 passes))))
 
-  pub zero_means : (Means : Type 0) (a : CheckAnswer) → checked_answer a ≡ check_answer_under limit lowest_lot s list → (checked_answer a ≡ answered 0 0 0 → Means)
+  pub zero_means : (Means : Type 0) (a : Result (Unit {0}) Refusal) → checked_answer a ≡ check_answer_under limit lowest_lot s list → (checked_answer a ≡ answered 0 0 0 → Means)
       → (numbers_of (checked_answer a)).check ≡ 0 → Means
-  zero_means Means check.Passed answer means = λ z. means refl
-  zero_means Means (check.Refused number place) answer means = λ z. absurd (omega (arith, z, list_first number place answer))
+  zero_means Means (Ok passed) answer means = λ z. means refl
+  zero_means Means (Err r) answer means = λ z. absurd (omega (arith, z, list_first (check_of r) (place_of r) answer))
 
 -- ---- writers of sheets
 

@@ -1,6 +1,6 @@
 -- What the numbers promise of the sheet, beside the equations: for callers who see only them.
 use Rattle.std.specs.Prelude.{ℕ, ◌+◌, ◌*◌, ◌≤◌, ◌<◌, List, ◌↔◌, ◌≡◌, take}
-use Rattle.sheet.specs.declared.Verdict.TheVariants.{Passes}
+use Rattle.sheet.specs.Verdicts.{Passes}
 use Rattle.sheet.specs.Format.{lot_count}
 use Rattle.sheet.specs.Checks.{Accepted}
 use Rattle.sheet.specs.Conditions.{conditions}

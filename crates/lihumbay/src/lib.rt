@@ -30,7 +30,7 @@ pub fn lihumbay_read(sheet: &[u8]) -> Numbers
     ensures answer { result ≡ numbers_of (read_answer sheet.now) }
     ensures accepted { ZeroExactly result sheet.now }
 {
-    numbers::of_reading(reader::read(sheet))
+    Numbers::from(reader::read(sheet))
 }
 
 // The evaluator: 0 where all conditions are met, else the lowest that isn't.
@@ -38,7 +38,7 @@ pub fn lihumbay_evaluate(sheet: &[u8], grouping: &[u8]) -> Numbers
     ensures answer { result ≡ numbers_of (evaluate_answer sheet.now grouping.now) }
     ensures meaning { FirstUnmet result sheet.now grouping.now }
 {
-    numbers::of_evaluation(evaluator::evaluate(sheet, grouping))
+    Numbers::from(evaluator::evaluate(sheet, grouping))
 }
 
 // The count of unmet conditions.
@@ -46,7 +46,7 @@ pub fn lihumbay_count_unmet(sheet: &[u8], grouping: &[u8]) -> Numbers
     ensures answer { result ≡ numbers_of (count_answer sheet.now grouping.now) }
     ensures meaning { UnmetCounted result sheet.now grouping.now }
 {
-    numbers::of_counting(counter::count_unmet(sheet, grouping))
+    Numbers::from(counter::count_unmet(sheet, grouping))
 }
 
 // A lot gets another number: the new count of unmet conditions.
@@ -62,7 +62,7 @@ pub fn lihumbay_reassign(
     ensures counted { ZeroCounted result sheet.now grouping.old count grouping.new }
     ensures right { RightAccepted result sheet.now grouping.old count lot }
 {
-    numbers::of_counting(reassign::reassign(sheet, grouping, count, lot, value))
+    Numbers::from(reassign::reassign(sheet, grouping, count, lot, value))
 }
 
 // The search: 1 for met or 2 for cannot, and the count of records.
@@ -79,7 +79,7 @@ pub fn lihumbay_search(sheet: &[u8], grouping: &mut [u8], store: &mut [u8]) -> N
     ensures refutes { TwoRefutes result sheet.now store.new }
     ensures count { NodesBounded result sheet.now }
 {
-    numbers::of_search(search::search(sheet, grouping, store))
+    Numbers::from(search::search(sheet, grouping, store))
 }
 
 // The refutation checker: no value where the list passes.
@@ -88,7 +88,7 @@ pub fn lihumbay_check(sheet: &[u8], list: &[u8]) -> Numbers
     ensures passed { ZeroPassed result sheet.now list.now }
     ensures meaning { ZeroMeans result sheet.now }
 {
-    numbers::of_check(checker::check(sheet, list))
+    Numbers::from(checker::check(sheet, list))
 }
 
 // The search under a limit on the classes: as the search.
@@ -109,7 +109,7 @@ pub fn lihumbay_search_limited(
     ensures whichever { TwoWhicheverUnder (up_to limit) result sheet.now }
     ensures refutes { TwoRefutesUnder (up_to limit) result sheet.now store.new }
 {
-    numbers::of_search(search::search_limited(sheet, limit, grouping, store))
+    Numbers::from(search::search_limited(sheet, limit, grouping, store))
 }
 
 // The refutation checker under a limit on the classes: as the checker.
@@ -118,7 +118,7 @@ pub fn lihumbay_check_limited(sheet: &[u8], limit: u32, list: &[u8]) -> Numbers
     ensures passed { ZeroPassedUnder (up_to limit) result sheet.now list.now }
     ensures meaning { ZeroMeansUnder (up_to limit) result sheet.now }
 {
-    numbers::of_check(checker::check_limited(sheet, limit, list))
+    Numbers::from(checker::check_limited(sheet, limit, list))
 }
 
 // Repacking: how many bytes of the output were written.
@@ -129,7 +129,7 @@ pub fn lihumbay_repack(sheet: &[u8], out: &mut [u8]) -> Numbers
     ensures again { ZeroWritten (λ w. repacked w ≡ w) result out.new }
     ensures alike { ZeroWritten (λ w. ServedAlike w sheet.now) result out.new }
 {
-    numbers::of_written(repack::repack(sheet, out))
+    Numbers::from(repack::repack(sheet, out))
 }
 
 // Merging: how many bytes of the output were written. A refusal from reading has 1 or 2 behind the place, for the sheet that it came from.
@@ -145,5 +145,5 @@ pub fn lihumbay_merge(first: &[u8], second: &[u8], out: &mut [u8]) -> Numbers
     ensures meets { ZeroWritten (λ w. MeetsBoth w first.now second.now) result out.new }
     ensures places { ZeroWritten (λ w. Placed w first.now second.now) result out.new }
 {
-    numbers::of_merge(merge::merge(first, second, out))
+    Numbers::from(merge::merge(first, second, out))
 }

@@ -1,13 +1,11 @@
--- The limits that check 20 admits, and the limit that a number of the code stands for.
-use Prim.Native.Nat.{ℕ, zero, suc, ◌≤◌}
+-- The limits that check 20 admits.
+use Prim.Native.Nat.{ℕ, ◌≤◌}
 use mathlib.Core.Bool.{Bool, false}
 use mathlib.Core.Path.{◌≡◌, refl, ap}
-use native.Mathlib.Omega.{arith}
-use Rattle.sheet.specs.declared.Verdict.TheVariants.{Passes}
+use Rattle.sheet.specs.Verdicts.{Passes}
 use Rattle.sheet.specs.Checks.{or_else, refuses_if, first_refusal}
 use Rattle.equality.proofs.Tests.{from_one}
 use Rattle.limit.specs.Meaning.{unlimited, up_to, most_limit, ill_limited, check20, Admitted}
-use Rattle.limit.specs.Scan.{limit_of}
 
 -- Where there is no limit, 20 passes.
 pub none_admitted : Admitted unlimited
@@ -22,8 +20,3 @@ limit-within g e = from_one most_limit g e
 pub limit_admitted : (g : ℕ) → ill_limited g ≡ false → Admitted (up_to g)
 unfolding first_refusal check20
 limit_admitted g e = ap (λ (p : Bool). or_else (refuses_if p 20 g) Passes) e
-
--- A number that isn't 0 is the limit.
-pub limit_of_lem : (l : ℕ) → 1 ≤ l → limit_of l ≡ up_to l
-limit_of_lem zero some = absurd (omega arith)
-limit_of_lem (suc g) some = refl

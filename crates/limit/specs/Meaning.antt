@@ -1,7 +1,6 @@
 -- A limit on the classes (document 02, job 7; there: a cap on consignments), and the assignments that keep it.
 use Rattle.std.specs.Prelude.{ℕ, suc, ◌≤◌, Bool, true, false, cond, ◌||◌, List, [], ◌∷◌, map, ◌⊎◌, ◌≡◌, leb, ltb, eqb, length}
-use Rattle.sheet.specs.declared.Verdict.{Verdict}
-use Rattle.sheet.specs.declared.Verdict.TheVariants.{Passes}
+use Rattle.sheet.specs.Verdicts.{Verdict, Passes}
 use Rattle.sheet.specs.Format.{lot_count}
 use Rattle.sheet.specs.Checks.{refuses_if, first_refusal}
 use Rattle.sheet.specs.Conditions.{count_up}

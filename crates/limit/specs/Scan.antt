@@ -1,5 +1,5 @@
 -- The scan over the pairs of classes, from a pair on, and a test on nodes, for the contracts of the code; this file states nothing of document 02.
-use Rattle.std.specs.Prelude.{ℕ, zero, suc, ◌-◌, ◌<◌, Bool, true, false, cond, List, ◌≡◌, eqb}
+use Rattle.std.specs.Prelude.{ℕ, suc, ◌-◌, ◌<◌, Bool, true, false, cond, List, Option, None, Some, ◌≡◌, eqb}
 use Rattle.sheet.specs.Conditions.{Term}
 use Rattle.equality.specs.Node.{Decisions, class_of, classes, no_condition, taken, Node, met, ground, split, clique}
 use Rattle.limit.specs.Meaning.{Limit, unlimited, up_to}
@@ -38,7 +38,7 @@ pub record ResumesAfter (g n : ℕ) (tss : List (List Term)) (x y : ℕ) (ds : D
   pub rises : x < y
   pub pairs : ScanFrom g n x (suc y) ds
 
--- The limit that a number of the code stands for: 0 for none.
-abbrev pub limit_of : ℕ → Limit
-limit_of zero = unlimited
-limit_of (suc g) = up_to (suc g)
+-- The limit that is asked for, or that there is none.
+abbrev pub limit_in : Option ℕ → Limit
+limit_in None = unlimited
+limit_in (Some g) = up_to g

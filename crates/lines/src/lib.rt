@@ -1,112 +1,132 @@
-// The lines of the printed text, written into a buffer from a place on. Each function answers the place after what it wrote.
+// The lines of the printed text, appended to a text in a lent buffer.
 #![tactic(auto)]
 
-mod put; // put.rt: bytes, words and numbers
-
-ghost use Rattle.std.specs.Prelude.{[], ◌∷◌, ◌+◌, ◌*◌, ◌≤◌, length, take};
+ghost use Rattle.std.specs.Prelude.{◌≡◌, ◌∷◌, ◌++◌, ◌*◌, ◌≤◌, length, map};
 ghost use Rattle.sheet.specs.Format.{header_length};
 ghost use Rattle.store.specs.Records.{split_record, record_length};
 ghost use Rattle.store.specs.Code.{record_of};
 ghost use Rattle.lines.specs.Lines.{decimal, line, header_line, record_line, record_lines, refused_line, met_line};
-ghost use Rattle.buffers.specs.Written.{Wrote};
 ghost use Rattle.lines.specs.Code.{first_records};
+ghost use Rattle.lines.specs.Appending.{Begins, Appends, HasRoom, text_len};
 
-use put::{put_byte, put_field, put_word};
-use sheet::Lot;
+use itoa::Buffer;
 use store::{NodeNumber, NodeRecord};
 
-// The byte that ends a line.
-const LINE_END: u8 = 10;
-
-// The first line: the counts of the sheet's header.
-pub fn header_line(out: &mut [u8], at: usize, sheet: &[u8]) -> usize
-    requires { (header_length ≤ length sheet.now) × (at + length (header_line sheet.now) ≤ length out.old) }
-    ensures { Wrote out.old out.new at result (header_line sheet.now) }
-{
-    let h = sheet::format::header_of(sheet);
-    let mut next = put_word(out, at, b"lots");
-    next = put_field(out, next, h.lots as u32);
-    next = put_word(out, next, b" conditions");
-    next = put_field(out, next, h.conditions as u32);
-    next = put_word(out, next, b" terms");
-    next = put_field(out, next, h.records as u32);
-    put_byte(out, next, LINE_END)
+// A text at the front of a lent buffer, and its length. What is behind it stays as it was lent.
+#[derive(Drop)]
+pub struct Text<'a> {
+    out: &'a mut [u8],
+    len: usize,
 }
 
-// A word and a number.
-pub fn number_line(out: &mut [u8], at: usize, word: &[u8], x: u32) -> usize
-    requires { at + length (line word.now (decimal x ∷ [])) ≤ length out.old }
-    ensures { Wrote out.old out.new at result (line word.now (decimal x ∷ [])) }
-{
-    let mut next = put_word(out, at, word);
-    next = put_field(out, next, x);
-    put_byte(out, next, LINE_END)
-}
-
-// A refusal.
-pub fn refused_line(out: &mut [u8], at: usize, check: u32, place: u32) -> usize
-    requires { at + length (refused_line check place) ≤ length out.old }
-    ensures { Wrote out.old out.new at result (refused_line check place) }
-{
-    let mut next = put_word(out, at, b"refused");
-    next = put_field(out, next, check);
-    next = put_field(out, next, place);
-    put_byte(out, next, LINE_END)
-}
-
-// A split.
-fn split_line(out: &mut [u8], at: usize, a: Lot, b: Lot, second: NodeNumber) -> usize
-    requires { at + length (record_line (split_record a.0 b.0 second.0)) ≤ length out.old }
-    ensures { Wrote out.old out.new at result
-        (record_line (split_record a.0 b.0 second.0)) }
-{
-    let mut next = put_word(out, at, b"split");
-    next = put_field(out, next, a.0 as u32);
-    next = put_field(out, next, b.0 as u32);
-    next = put_field(out, next, second.0);
-    put_byte(out, next, LINE_END)
-}
-
-// The line of a node record; the met record and a clique have none.
-fn record_line(out: &mut [u8], at: usize, node: NodeRecord) -> usize
-    requires { at + length (record_line (record_of node)) ≤ length out.old }
-    ensures { Wrote out.old out.new at result (record_line (record_of node)) }
-{
-    match node {
-        NodeRecord::Split(a, b, second) => split_line(out, at, a, b, second),
-        NodeRecord::Ground(c) => number_line(out, at, b"ground", c.0 as u32),
-        NodeRecord::Met => at,
-        NodeRecord::Clique => at,
-        NodeRecord::Other => at,
+impl<'a> Text<'a> {
+    // No text yet.
+    pub fn new(out: &'a mut [u8]) -> Text<'a>
+        ensures { Begins out.entry result }
+    {
+        Text { out, len: 0 }
     }
-}
 
-// The lines of the first records of a store.
-pub fn record_lines(out: &mut [u8], at: usize, store: &[u8], count: u32) -> usize
-    requires { (record_length * count ≤ length store.now)
-        × (at + length (record_lines (first_records store.now count)) ≤ length out.old) }
-    ensures { Wrote out.old out.new at result (record_lines (first_records store.now count)) }
-{
-    let mut next = at;
-    let mut done: u32 = 0;
-    while done < count {
-        let node = store::read(store, NodeNumber(done + 1));
-        next = record_line(out, next, node);
-        done += 1;
+    pub fn len(&self) -> usize
+        ensures { result ≡ text_len self.now }
+    {
+        self.len
     }
-    next
-}
 
-// Met, with the first bytes of a grouping: those of the sheet's lots.
-pub fn met_line(out: &mut [u8], at: usize, grouping: &[u8], lots: usize) -> usize
-    requires { (lots ≤ length grouping.now) × (at + length (met_line (take lots grouping.now)) ≤ length out.old) }
-    ensures { Wrote out.old out.new at result (met_line (take lots grouping.now)) }
-{
-    let mut next = put_word(out, at, b"met");
-    let mut i = 0;
-    while i < lots {
-        next = put_field(out, next, grouping[i] as u32);
-        i += 1;
+    // The first line: the counts of the sheet's header.
+    pub fn header_line(&mut self, sheet: &[u8])
+        requires { (header_length ≤ length sheet.now) × HasRoom self.old (header_line sheet.now) }
+        ensures { Appends self.old self.new (header_line sheet.now) }
+    {
+        let h = sheet::format::header_of(sheet);
+        self.count(b"lots", h.lots);
+        self.count(b" conditions", h.conditions);
+        self.line(b" terms", &[u32::from(h.records)]);
     }
-    put_byte(out, next, LINE_END)
+
+    // A word and numbers.
+    pub fn line(&mut self, word: &[u8], numbers: &[u32])
+        requires { HasRoom self.old (line word.now (map decimal numbers.now)) }
+        ensures { Appends self.old self.new (line word.now (map decimal numbers.now)) }
+    {
+        self.word(word);
+        for &x in numbers {
+            self.field(x);
+        }
+        self.word(b"\n");
+    }
+
+    // A refusal, by its two numbers: the line is defined for any (`refused_line`), and promised for any.
+    pub fn refused_line(&mut self, check: u32, place: u32)
+        requires { HasRoom self.old (refused_line check place) }
+        ensures { Appends self.old self.new (refused_line check place) }
+    {
+        self.line(b"refused", &[check, place]);
+    }
+
+    // The line of a node record; the met record and a clique have none.
+    fn record_line(&mut self, node: NodeRecord)
+        requires { HasRoom self.old (record_line (record_of node)) }
+        ensures { Appends self.old self.new (record_line (record_of node)) }
+    {
+        match node {
+            NodeRecord::Split(a, b, second) => {
+                self.line(b"split", &[u32::from(a.0), u32::from(b.0), second.0])
+            }
+            NodeRecord::Ground(c) => self.line(b"ground", &[u32::from(c.0)]),
+            NodeRecord::Met | NodeRecord::Clique | NodeRecord::Other => {}
+        }
+    }
+
+    // The lines of the first records of a store.
+    pub fn record_lines(&mut self, store: &[u8], count: u32)
+        requires { (record_length * count ≤ length store.now)
+            × HasRoom self.old (record_lines (first_records store.now count)) }
+        ensures { Appends self.old self.new (record_lines (first_records store.now count)) }
+    {
+        for i in 1..=count {
+            self.record_line(store::read(store, NodeNumber(i)));
+        }
+    }
+
+    // Met, with a grouping's bytes. The loop is that of `line`, over bytes. One for both is no plainer: `Into<u32>` promises a relation, which
+    // leaves its clause no numbers to name, and an iterator brings clauses of its own.
+    pub fn met_line(&mut self, grouping: &[u8])
+        requires { HasRoom self.old (met_line grouping.now) }
+        ensures { Appends self.old self.new (met_line grouping.now) }
+    {
+        self.word(b"met");
+        for &lot in grouping {
+            self.field(u32::from(lot));
+        }
+        self.word(b"\n");
+    }
+
+    // A word, and how many of what it names there are.
+    fn count(&mut self, word: &[u8], n: u16)
+        requires { HasRoom self.old (word.now ++ 32 ∷ decimal n) }
+        ensures { Appends self.old self.new (word.now ++ 32 ∷ decimal n) }
+    {
+        self.word(word);
+        self.field(u32::from(n));
+    }
+
+    // A space and a number: a field that is not a line's first. `write!` could fail by its contract, and `text::print` cannot.
+    fn field(&mut self, x: u32)
+        requires { HasRoom self.old (32 ∷ decimal x) }
+        ensures { Appends self.old self.new (32 ∷ decimal x) }
+    {
+        self.word(b" ");
+        self.word(Buffer::new().format(x).as_bytes());
+    }
+
+    // Bytes as they are.
+    fn word(&mut self, word: &[u8])
+        requires { HasRoom self.old word.now }
+        ensures { Appends self.old self.new word.now }
+    {
+        let end = self.len + word.len();
+        self.out[self.len..end].copy_from_slice(word);
+        self.len = end;
+    }
 }

@@ -1,17 +1,16 @@
--- The table within its bytes: with a bit set, with all bits zeroed, and the bytes around it.
-use Prim.Native.Nat.{ℕ, ◌+◌, ◌*◌, ◌-◌, ◌/◌, ◌%◌, ◌^◌, ◌≤◌, ◌<◌}
+-- The table within its bytes: with a bit set, and the bytes around it.
+use Prim.Native.Nat.{ℕ, ◌%◌, ◌^◌, ◌≤◌, ◌<◌}
 use mathlib.Core.Bool.{Bool, true, false, ◌&&◌, ◌||◌, false≢true}
-use mathlib.Core.List.{List, ◌++◌}
+use mathlib.Core.List.{List}
 use mathlib.Core.Path.{◌≡◌, refl, sym, ap, ◌∙◌}
-use native.Mathlib.Nat.{zero-div}
 use native.Mathlib.Omega.{arith}
 use borrow.Author.Tests.{eqb-true, eqb-false, eq-eqb, ne_eqb}
 use lib.Bits.{bit_or}
 use lib.Dec.{eqb}
-use lib.ListN.{length, get_or, take, drop, replicate, length-set, length-append, length-take, length-drop, get_or-replicate, get_or-append}
-use lib.Seq.{length-take-le, get_or-set_same, get_or-set_other, get_or-append-add, get_or-take, get_or-drop}
+use lib.ListN.{get_or, length-set}
+use lib.Seq.{get_or-set_same, get_or-set_other}
 use Rattle.sheet.specs.Format.{most_lots}
-use Rattle.marks.specs.Marks.{row_length, table_length, bit_of, place, bit_at, with_bit, Room, Unmarked, Outside, MarkedToo}
+use Rattle.marks.specs.Marks.{bit_of, place, bit_at, with_bit, Room, Outside, MarkedToo}
 use Rattle.marks.proofs.Bits.{or_bit}
 
 -- ---- the bytes around the table
@@ -117,56 +116,3 @@ marked-second l at x y room hy hx =
     turned true false false s b e = refl
     turned false true false s b e = refl
     turned false false false s b e = refl
-
--- or they are one, and nothing is marked.
-pub marked_itself : (l : List ℕ) (at x y : ℕ) → x ≡ y → MarkedToo l l at x y
-marked_itself l at x y e =
-    record {
-      bits = λ u v hu hv. sym (rw (not-both x u y v (λ f g. omega arith), not-both x v y u (λ f g. omega arith)));
-      outside = outside-none l at;
-    }
-
--- ---- zeroed
-
--- What stands behind the first `at`.
-past : (p q : List ℕ) (at i : ℕ) → length p ≡ at → get_or (p ++ q) (at + i) 0 ≡ get_or q i 0
-past p q at i len = rw (← len) (get_or-append-add p q i 0)
-
--- The table's bytes, as they are lent.
-pub part_length : (l : List ℕ) (at : ℕ) → Room l at → length (take (at + table_length - at) (drop at l)) ≡ table_length
-part_length l at room = simp (length-take, length-drop) (omega arith)
-
--- The bytes with a part in place of the table.
-module _ (l part : List ℕ) (at n : ℕ) (room : Room l at) (len : length part ≡ table_length) (end : n ≡ table_length) where
-  start_length : length (take at l) ≡ at
-  start_length = length-take-le at l (omega arith)
-
-  pub put_outside : Outside l (take at l ++ (part ++ drop n (drop at l))) at
-  put_outside =
-      record {
-        size = simp (length-append, length-take, length-drop) (omega arith);
-        front = λ i h. get_or-append (take at l) (part ++ drop n (drop at l)) 0 i (omega (arith, start_length)) ∙ get_or-take at l i 0 h;
-        back = λ i h.
-            let k = i - (at + table_length) in
-            let place : at + (table_length + k) ≡ i = omega arith in
-            let same : at + (n + k) ≡ i = omega arith in
-            ap (λ (j : ℕ). get_or (take at l ++ (part ++ drop n (drop at l))) j 0) (sym place)
-            ∙ past (take at l) (part ++ drop n (drop at l)) at (table_length + k) start_length
-            ∙ past part (drop n (drop at l)) table_length k len
-            ∙ get_or-drop n (drop at l) k 0
-            ∙ get_or-drop at l (n + k) 0
-            ∙ ap (λ (j : ℕ). get_or l j 0) same;
-      }
-
-  pub put_zeros : part ≡ replicate table_length 0 → Unmarked (take at l ++ (part ++ drop n (drop at l))) at
-  put_zeros zeros = record { none = λ x y hx hy. ap (λ (b : ℕ). bit_of b (x % 8)) (zero_at x y hx hy) ∙ no_bit (x % 8) }
-    where
-      zero_at : (x y : ℕ) → x < y → y ≤ most_lots → get_or (take at l ++ (part ++ drop n (drop at l))) (place at x y) 0 ≡ 0
-      zero_at x y hx hy =
-          let here : at + (row_length * (y - 1) + x / 8) ≡ place at x y = omega arith in
-          rw (← here) (past (take at l) (part ++ drop n (drop at l)) at (row_length * (y - 1) + x / 8) start_length)
-          ∙ get_or-append part (drop n (drop at l)) 0 (row_length * (y - 1) + x / 8) (omega arith)
-          ∙ rw zeros (get_or-replicate table_length (row_length * (y - 1) + x / 8) 0 0 (omega arith))
-
-      no_bit : (k : ℕ) → bit_of 0 k ≡ false
-      no_bit k = rw (zero-div (2 ^ k))

@@ -2,11 +2,11 @@
 // bytes of the table have before does not matter.
 #![tactic(auto)]
 
-ghost use Rattle.std.specs.Prelude.{◌≡◌, ◌*◌, ◌≤◌, ◌<◌, length, replicate};
+ghost use Rattle.std.specs.Prelude.{◌≡◌, ◌+◌, ◌*◌, ◌≤◌, ◌<◌, length};
 ghost use Rattle.sheet.specs.Format.{most_lots};
 ghost use Rattle.classes.specs.Maps.{ClassMap};
 ghost use Rattle.classes.specs.Pairs.{set_apart, PairsWithin};
-ghost use Rattle.marks.specs.Marks.{Room, bit_at, with_bit, mark_at, Unmarked, Marks, Outside, MarkedToo};
+ghost use Rattle.marks.specs.Marks.{table_length, place, Room, bit_at, with_bit, mark_at, Unmarked, Marks, Outside, MarkedToo};
 
 use classes::ENTRIES;
 
@@ -19,25 +19,21 @@ pub const TABLE_LENGTH: usize = ROW_LENGTH * (ENTRIES - 1);
 // So many pairs are walked over for false terms before a table is worth its marking (docs/PERFORMANCE.md).
 pub const WALKED: usize = 64;
 
-// Zeroes bytes.
-fn zero(bytes: &mut [u8])
-    ensures { bytes.new ≡ replicate (length bytes.old) 0 }
-{
-    let mut i: usize = 0;
-    while i < bytes.len() {
-        bytes[i] = 0;
-        i += 1;
-    }
-}
-
 // Takes all marks from a table.
 pub fn clear(bytes: &mut [u8], at: usize)
     requires { Room bytes.old at }
     ensures unmarked { Unmarked bytes.new at }
     ensures outside { Outside bytes.old bytes.new at }
 {
-    let end = at + TABLE_LENGTH;
-    zero(&mut bytes[at..end]);
+    bytes[at..at + TABLE_LENGTH].fill(0);
+}
+
+// The byte that has the bit of two classes, the smaller first.
+fn place(at: usize, x: u8, y: u8) -> usize
+    requires { (at + table_length ≤ usize.MAX) × (x < y) × (y ≤ most_lots) }
+    ensures { result ≡ place at x y }
+{
+    at + ROW_LENGTH * usize::from(y - 1) + usize::from(x / 8)
 }
 
 // Sets the bit of two classes, the smaller first.
@@ -45,8 +41,7 @@ fn set_bit(bytes: &mut [u8], at: usize, x: u8, y: u8)
     requires { Room bytes.old at × (x < y) × (y ≤ most_lots) }
     ensures { bytes.new ≡ with_bit bytes.old at x y }
 {
-    let i = at + ROW_LENGTH * ((y - 1) as usize) + (x / 8) as usize;
-    bytes[i] = bytes[i] | 1u8 << (x % 8);
+    bytes[place(at, x, y)] |= 1 << (x % 8);
 }
 
 // That bit.
@@ -54,8 +49,7 @@ fn bit_at(bytes: &[u8], at: usize, x: u8, y: u8) -> bool
     requires { Room bytes.now at × (x < y) × (y ≤ most_lots) }
     ensures { result ≡ bit_at bytes.now at x y }
 {
-    let i = at + ROW_LENGTH * ((y - 1) as usize) + (x / 8) as usize;
-    (bytes[i] >> (x % 8)) % 2 == 1
+    (bytes[place(at, x, y)] >> (x % 8)) % 2 == 1
 }
 
 // Marks two classes. A class is not marked with itself.
@@ -90,12 +84,10 @@ fn mark_pairs(bytes: &mut [u8], at: usize, lots: &[u8], count: usize)
     ensures marks { Marks bytes.new at lots.now (set_apart bytes.old count) }
     ensures outside { Outside bytes.old bytes.new at }
 {
-    let mut i: usize = 0;
-    while i < count {
-        let a = bytes[2 * i] as usize;
-        let b = bytes[2 * i + 1] as usize;
+    for i in 0..count {
+        let a = usize::from(bytes[2 * i]);
+        let b = usize::from(bytes[2 * i + 1]);
         mark(bytes, at, lots[a], lots[b]);
-        i += 1;
     }
 }
 

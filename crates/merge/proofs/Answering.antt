@@ -8,8 +8,7 @@ use borrow.Author.Tests.{lt-ltb, le-ltb, ltb-false}
 use lib.Dec.{ltb}
 use lib.ListN.{length, take, drop}
 use lib.Seq.{take-append_seam}
-use Rattle.sheet.specs.declared.Verdict.{Verdict}
-use Rattle.sheet.specs.declared.Verdict.TheVariants.{Passes, Refuses}
+use Rattle.sheet.specs.Verdicts.{Verdict, Passes, Refuses}
 use Rattle.buffers.specs.Written.{written}
 use Rattle.sheet.specs.Format.{most_conditions, most_records, lot_count}
 use Rattle.sheet.specs.Checks.{Accepted, or_else, refuses_if, first_refusal, sheet_checks, sheet_verdict}

@@ -2,8 +2,8 @@
 use Prim.Native.Nat.{ℕ, max}
 use mathlib.Core.List.{List}
 use mathlib.Core.Logic.{◌↔◌}
-use mathlib.Core.Path.{◌≡◌, sym, subst, ◌∙◌}
-use Rattle.sheet.specs.declared.Verdict.{Verdict}
+use mathlib.Core.Path.{◌≡◌, refl, sym, subst, ◌∙◌}
+use Rattle.sheet.specs.Verdicts.{Verdict}
 use Rattle.sheet.specs.Format.{lot_count}
 use Rattle.sheet.specs.Checks.{Accepted}
 use Rattle.sheet.specs.Conditions.{conditions}
@@ -12,19 +12,24 @@ use Rattle.writer.specs.Answers.{output_after, OfWritten}
 use Rattle.equality.specs.Meaning.{Meets}
 use Rattle.repack.specs.Repack.{repacked}
 use Rattle.repeats.specs.Repeats.{has_terms, merged_conditions}
-use Rattle.merge.specs.declared.MergeAnswer.{MergeAnswer}
+use Rattle.std.specs.Prelude.{Result, Err}
+use Rattle.sheet.specs.declared.refusal.Refusal.{Refusal}
+use Rattle.sheet.specs.Refusals.{check_of, place_of}
+use Rattle.sheet.specs.Verdicts.{Refuses}
+use Rattle.merge.specs.declared.MergeRefusal.{MergeRefusal}
+use Rattle.merge.specs.declared.MergeRefusal.TheVariants.{Both}
 use Rattle.merge.specs.Merge.{which_refused, merged, merge_verdict, merge_answer, merge_out}
 use Rattle.merge.specs.Answers.{merged_answer, sheet_refused}
 use Rattle.merge.specs.Promises.{MeetsBoth, Placed}
 use Rattle.merge.proofs.Merged.{merged-accepted, merged-lots, merged-conditions, merged-packed, merged-meets}
 use Rattle.merge.proofs.Places.{placed}
-use Rattle.merge.proofs.Answering.{answer_by, answer_by_lem, output_by, Fitted, fitted}
+use Rattle.merge.proofs.Answering.{which_neither, answer_by, answer_by_lem, output_by, Fitted, fitted}
 
 module _ (s t out : List ℕ) where
   -- ---- the equations
 
   -- Of the answer, of the sheet that it names, and of the output.
-  abbrev pub Equations : MergeAnswer → List ℕ → Type 0
+  abbrev pub Equations : Result ℕ MergeRefusal → List ℕ → Type 0
   Equations r out' =
       record {
         answer : merged_answer r ≡ merge_answer has_terms s t out;
@@ -33,11 +38,17 @@ module _ (s t out : List ℕ) where
       }
 
   -- The verdict decides.
-  pub equations : (v : Verdict) → merge_verdict has_terms s t out ≡ v → (r : MergeAnswer) (out' : List ℕ)
+  pub equations : (v : Verdict) → merge_verdict has_terms s t out ≡ v → (r : Result ℕ MergeRefusal) (out' : List ℕ)
       → merged_answer r ≡ answer_by has_terms s t v → sheet_refused r ≡ which_refused s t → out' ≡ output_after (answer_by has_terms s t v) (merged has_terms s t) out
       → Equations r out'
   equations v e r out' told sheet left =
       record { answer = told ∙ sym (answer_by_lem has_terms s t out v e); sheet = sheet; output = left ∙ sym (output_by has_terms s t out v e) }
+
+  -- A refusal of both sheets together: nothing is written.
+  pub both_refused : Accepted s → Accepted t → (r : Refusal) {check place : ℕ} → merge_verdict has_terms s t out ≡ Refuses check place
+      → refused (check_of r) (place_of r) ≡ refused check place → Equations (Err (Both r)) out
+  both_refused first second r verdict told =
+      equations (Refuses _ _) verdict (Err (Both r)) out told (sym (which_neither s t first second)) refl
 
   -- ---- what is written
 
@@ -57,7 +68,7 @@ module _ (s t out : List ℕ) where
 
   -- ---- all clauses
 
-  abbrev pub Ensured : MergeAnswer → List ℕ → Type 0
+  abbrev pub Ensured : Result ℕ MergeRefusal → List ℕ → Type 0
   Ensured r out' =
       record {
         answer : merged_answer r ≡ merge_answer has_terms s t out;
@@ -71,7 +82,7 @@ module _ (s t out : List ℕ) where
         places : OfWritten (λ w. Placed w s t) (merged_answer r) out';
       }
 
-  pub ensured : (r : MergeAnswer) (out' : List ℕ) → Equations r out' → Ensured r out'
+  pub ensured : (r : Result ℕ MergeRefusal) (out' : List ℕ) → Equations r out' → Ensured r out'
   ensured r out' e =
       let a = merged_answer r in
       let answer = e.answer in

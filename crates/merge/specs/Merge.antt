@@ -1,8 +1,7 @@
 -- One sheet of two (document 02, job 4).
 use Rattle.std.specs.Prelude.{ℕ, max, Bool, ltb, length}
 use mathlib.Core.List.{List, [], ◌∷◌, ◌++◌, flatten}
-use Rattle.sheet.specs.declared.Verdict.{Verdict}
-use Rattle.sheet.specs.declared.Verdict.TheVariants.{Passes, Refuses}
+use Rattle.sheet.specs.Verdicts.{Verdict, Passes, Refuses}
 use Rattle.sheet.specs.Format.{lowest_lot, most_conditions, most_records, lot_count}
 use Rattle.sheet.specs.Checks.{or_else, refuses_if, first_refusal, sheet_checks_with, sheet_verdict_with}
 use Rattle.sheet.specs.Conditions.{Term}

@@ -15,21 +15,14 @@ ghost use Rattle.merge.specs.Answers.{merged_answer, sheet_refused};
 ghost use Rattle.merge.specs.Promises.{MeetsBoth, Placed};
 
 use repeats::kept;
-use sheet::Reading;
+use sheet::Refusal;
 
-// What a merge answers: the length that it wrote, or a refusal, on which nothing is written: of the first sheet, of the second, or of both together.
-#[derive(Clone, Copy)]
-pub enum MergeAnswer {
-    Written { length: u32 },
-    FirstRefused { check: u32, place: u32 },
-    SecondRefused { check: u32, place: u32 },
-    Refused { check: u32, place: u32 },
-}
-
-fn larger(x: u16, y: u16) -> u16
-    ensures { result ≡ max x y }
-{
-    if x < y { y } else { x }
+// Why a merge is refused, on which nothing is written: the first sheet is, or the second, or both together.
+#[derive(Clone, Copy, Debug, PartialEq, Eq)]
+pub enum MergeRefusal {
+    First(Refusal),
+    Second(Refusal),
+    Both(Refusal),
 }
 
 // Merges two sheets that are accepted, with so many conditions each, into one of so many lots.
@@ -40,7 +33,7 @@ fn merge_both(
     m2: u16,
     lots: u16,
     out: &mut [u8],
-) -> MergeAnswer
+) -> Result<u32, MergeRefusal>
     requires { HasConditions first.now m1 × HasConditions second.now m2 × (lots ≡ merged_lots first.now second.now) }
     ensures answer { merged_answer result ≡ merge_answer has_terms first.now second.now out.old }
     ensures sheet { sheet_refused result ≡ which_refused first.now second.now }
@@ -51,51 +44,41 @@ fn merge_both(
     let conditions = both.upto as u16;
     let terms = both.terms;
     if 256 < conditions {
-        return MergeAnswer::Refused {
-            check: 18,
-            place: 2,
-        };
+        return Err(MergeRefusal::Both(Refusal::TooManyMergedConditions));
     }
     if 1024 < terms {
-        return MergeAnswer::Refused {
-            check: 18,
-            place: 3,
-        };
+        return Err(MergeRefusal::Both(Refusal::TooManyMergedRecords));
     }
     let needed = writer::length_of(conditions, terms);
-    if out.len() < (needed as usize) {
-        return MergeAnswer::Refused {
-            check: 19,
-            place: needed,
-        };
+    if out.len() < needed as usize {
+        return Err(MergeRefusal::Both(Refusal::ShortForMerged(needed)));
     }
     let begun = writer::begin(out, lots, conditions, terms);
-    let half = kept::add(first, m1, &entries, 0, both.first, out, begun);
-    kept::add(second, m2, &entries, both.first, both.upto, out, half);
-    MergeAnswer::Written { length: needed }
+    let half = kept::add(first, m1, &entries[..both.first], out, begun);
+    kept::add(second, m2, &entries[both.first..both.upto], out, half);
+    Ok(needed)
 }
 
 // Merges a sheet that is accepted with another.
-fn merge_second(first: &[u8], lots: u16, m: u16, second: &[u8], out: &mut [u8]) -> MergeAnswer
+fn merge_second(
+    first: &[u8],
+    lots: u16,
+    m: u16,
+    second: &[u8],
+    out: &mut [u8],
+) -> Result<u32, MergeRefusal>
     requires { HasConditions first.now m × (lots ≡ lot_count first.now) }
     ensures answer { merged_answer result ≡ merge_answer has_terms first.now second.now out.old }
     ensures sheet { sheet_refused result ≡ which_refused first.now second.now }
     ensures output { out.new ≡ merge_out has_terms first.now second.now out.old }
 {
-    let reading = reader::read(second);
-    match reading {
-        Reading::Refused { check, place } => MergeAnswer::SecondRefused { check, place },
-        Reading::Accepted {
-            lots: others,
-            conditions,
-            records: _,
-        } => merge_both(first, m, second, conditions, larger(lots, others), out),
-    }
+    let h = reader::read(second).map_err(MergeRefusal::Second)?;
+    merge_both(first, m, second, h.conditions, lots.max(h.lots), out)
 }
 
 // Merges two sheets, for any bytes and any buffer at all; the two may be one slice. What is written is accepted and packed, has the larger number of lots and
 // the conditions of both without repeats, and is met by exactly those who meet both sheets. Withdrawn conditions keep their places.
-pub fn merge(first: &[u8], second: &[u8], out: &mut [u8]) -> MergeAnswer
+pub fn merge(first: &[u8], second: &[u8], out: &mut [u8]) -> Result<u32, MergeRefusal>
     ensures answer { merged_answer result ≡ merge_answer has_terms first.now second.now out.old }
     ensures sheet { sheet_refused result ≡ which_refused first.now second.now }
     ensures output { out.new ≡ merge_out has_terms first.now second.now out.old }
@@ -108,13 +91,6 @@ pub fn merge(first: &[u8], second: &[u8], out: &mut [u8]) -> MergeAnswer
     ensures meets { OfWritten (λ w. MeetsBoth w first.now second.now) (merged_answer result) out.new }
     ensures places { OfWritten (λ w. Placed w first.now second.now) (merged_answer result) out.new }
 {
-    let reading = reader::read(first);
-    match reading {
-        Reading::Refused { check, place } => MergeAnswer::FirstRefused { check, place },
-        Reading::Accepted {
-            lots,
-            conditions,
-            records: _,
-        } => merge_second(first, lots, conditions, second, out),
-    }
+    let h = reader::read(first).map_err(MergeRefusal::First)?;
+    merge_second(first, h.lots, h.conditions, second, out)
 }

@@ -1,26 +1,24 @@
 -- What a node is under a limit, by what it is without one, and what a split says of its apart branch, whichever limit there is: on a term it goes on in the
 -- condition, on a pair of classes after the pair.
-use Prim.Native.Nat.{ℕ, zero, suc}
+use Prim.Native.Nat.{ℕ}
 use mathlib.Core.List.{List, ◌∷◌}
-use mathlib.Core.Logic.{◌≢◌}
 use mathlib.Core.Path.{◌≡◌, refl, sym, subst, ◌∙◌}
 use native.Mathlib.Omega.{arith}
-use borrow.Author.Tests.{eq-eqb, ne_eqb}
-use Rattle.sheet.specs.Conditions.{apart, condition_at, conditions}
+use Rattle.std.specs.Prelude.{Option, Some, None}
+use Rattle.sheet.specs.Conditions.{apart, conditions}
 use Rattle.equality.specs.Node.{Decisions, Taken, no_condition, takes, taken, Node, met, ground, split, node}
 use Rattle.limit.specs.Meaning.{Limit, unlimited, up_to}
 use Rattle.limit.specs.Rule.{none_taken, node_under}
-use Rattle.limit.specs.Scan.{ResumesAfter, limit_of}
-use Rattle.limit.proofs.Range.{limit_of_lem}
+use Rattle.limit.specs.Scan.{ResumesAfter, limit_in}
 use Rattle.limit.proofs.Resumes.{under_takes, pair_resumes}
 use Rattle.node.specs.declared.Split as pair
 use Rattle.node.specs.declared.Untaken.{Untaken}
 use Rattle.node.specs.declared.Untaken.TheVariants.{Met, Split, Clique}
 use Rattle.scan.specs.declared.Place.{Place}
-use Rattle.scan.specs.Place.{ResumesWithin, ResumesPair, Stands}
-use Rattle.node.specs.Found.{untaken_as, PairSplit, SplitLeaves, PairLeaves}
+use Rattle.scan.specs.declared.Place.TheVariants.{Scan, Within, Nowhere, After}
+use Rattle.scan.specs.Place.{ResumesPair, Resumes, Stands}
+use Rattle.node.specs.Found.{untaken_as, WithinTerm, PairSplit, SplitLeaves, PairLeaves}
 use Rattle.node.proofs.Resuming.{none-met}
-use Rattle.scan.proofs.Settling.{taken-number}
 
 -- A node that stands at a place that is known stands there.
 pub stands : (limit : Limit) (n : ℕ) (s : List ℕ) (ds : Decisions) {p q : Place} → p ≡ q → Stands limit n s p ds → Stands limit n s q ds
@@ -29,10 +27,14 @@ stands limit n s ds e w = subst (λ (p : Place). Stands limit n s p ds) e w
 -- ---- a condition is taken
 
 pub term_leaves : (limit : Limit) (n : ℕ) (s : List ℕ) (ds : Decisions) (on : pair.Split)
-    → ResumesWithin s on.condition.0 on.after.0 (apart on.a.0 on.b.0 ∷ ds) → SplitLeaves limit n s on ds
-term_leaves limit n s ds on leaves =
-    let number = (taken-number (apart on.a.0 on.b.0 ∷ ds) s on.condition.0 (condition_at s on.condition.0) leaves.condition).0 in
-    rw (ne_eqb on.condition.0 0 (λ e. omega arith)) leaves
+    → WithinTerm s on.apart (apart on.a.0 on.b.0 ∷ ds) → SplitLeaves limit n s on ds
+term_leaves limit n s ds on leaves = go on.apart leaves
+  where
+    go : (p : Place) → WithinTerm s p (apart on.a.0 on.b.0 ∷ ds) → Resumes limit n s p (apart on.a.0 on.b.0 ∷ ds)
+    go Scan leaves = absurd leaves
+    go (Within c r) leaves = leaves
+    go Nowhere leaves = absurd leaves
+    go (After x y) leaves = absurd leaves
 
 -- ---- what a node is under a limit, by what it is without one
 
@@ -66,18 +68,18 @@ module _ (limit : Limit) (n : ℕ) (s : List ℕ) (ds : Decisions) where
 pair_leaves : (g n : ℕ) (s : List ℕ) (ds : Decisions) → taken ds 1 (conditions s) ≡ no_condition → (k : Untaken) → PairSplit k
     → untaken_as k ≡ none_taken (up_to g) n ds → PairLeaves (up_to g) n s k ds
 pair_leaves g n s ds none Met pair e = tt
-pair_leaves g n s ds none (Split on) pair e = rw (eq-eqb on.condition.0 0 pair) (pair_resumes ds on.a.0 on.b.0 g n (conditions s) none (sym e))
+pair_leaves g n s ds none (Split on) pair e = rw pair (pair_resumes ds on.a.0 on.b.0 g n (conditions s) none (sym e))
 pair_leaves g n s ds none Clique pair e = tt
 
--- The node, and what it says of its apart branch, by the number that the code has for the limit: with one,
-pub limited-node : (l n : ℕ) (s : List ℕ) (ds : Decisions) → l ≢ 0 → taken ds 1 (conditions s) ≡ no_condition → (k : Untaken) → PairSplit k
-    → untaken_as k ≡ none_taken (up_to l) n ds → (untaken_as k ≡ none_taken (limit_of l) n ds) × PairLeaves (limit_of l) n s k ds
-limited-node l n s ds some none k pair e = rw (limit_of_lem l (omega (arith, some))) (e, pair_leaves l n s ds none k pair e)
+-- The node, and what it says of its apart branch, by the limit that is asked for: with one,
+pub limited-node : {l : Option ℕ} (g n : ℕ) (s : List ℕ) (ds : Decisions) → l ≡ Some g → taken ds 1 (conditions s) ≡ no_condition → (k : Untaken) → PairSplit k
+    → untaken_as k ≡ none_taken (up_to g) n ds → (untaken_as k ≡ none_taken (limit_in l) n ds) × PairLeaves (limit_in l) n s k ds
+limited-node g n s ds is none k pair e = rw is (e, pair_leaves g n s ds none k pair e)
 
 -- and without one.
-pub no_limit_met : (l n : ℕ) (ds : Decisions) → l ≡ 0 → met ≡ none_taken (limit_of l) n ds
+pub no_limit_met : {l : Option ℕ} (n : ℕ) (ds : Decisions) → l ≡ None → met ≡ none_taken (limit_in l) n ds
 unfolding none_taken
-no_limit_met l n ds e = rw e
+no_limit_met n ds is = rw is
 
 -- ---- a node that is looked at after a pair
 
@@ -86,7 +88,7 @@ pub pair_none : (limit : Limit) (n : ℕ) (s : List ℕ) (x y : ℕ) (ds : Decis
 pair_none unlimited n s x y ds w = absurd w
 pair_none (up_to g) n s x y ds w = w.none
 
--- and is only where there is a limit.
-pub resumes-limited : (l n : ℕ) (s : List ℕ) (x y : ℕ) (ds : Decisions) → ResumesPair (limit_of l) n s x y ds → (l ≢ 0) × ResumesAfter l n (conditions s) x y ds
-resumes-limited zero n s x y ds w = absurd w
-resumes-limited (suc g) n s x y ds w = ((λ e. omega arith), w)
+-- and no pair up to that one is unmarked, under the limit that is asked for.
+pub resumes-limited : {l : Option ℕ} (g n : ℕ) (s : List ℕ) (x y : ℕ) (ds : Decisions) → l ≡ Some g → ResumesPair (limit_in l) n s x y ds
+    → ResumesAfter g n (conditions s) x y ds
+resumes-limited g n s x y ds is w = rw is at w

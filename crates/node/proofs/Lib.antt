@@ -1,4 +1,5 @@
 mod Opening
+mod Splitting
 mod Resuming
 mod Pairing
 pub mod Leaving

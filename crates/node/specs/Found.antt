@@ -1,5 +1,5 @@
 -- The node's answer as the definition's, what its marks are looked up in, and what a split says of its apart branch; this file states nothing of document 01.
-use Rattle.std.specs.Prelude.{ℕ, ◌+◌, ◌*◌, ◌≤◌, cond, List, ◌∷◌, ◌≡◌, eqb, length}
+use Rattle.std.specs.Prelude.{ℕ, ◌+◌, ◌*◌, ◌≤◌, List, ◌∷◌, ◌≡◌, length}
 use Rattle.sheet.specs.declared.Condition.{Condition}
 use Rattle.sheet.specs.declared.Term as written
 use Rattle.sheet.specs.Conditions.{apart}
@@ -10,7 +10,7 @@ use Rattle.classes.specs.Maps.{ClassMap}
 use Rattle.classes.specs.Pairs.{PairsWithin}
 use Rattle.marks.specs.Marks.{table_length}
 use Rattle.scan.specs.declared.Place.{Place}
-use Rattle.scan.specs.declared.Place.TheVariants.{Within, After}
+use Rattle.scan.specs.declared.Place.TheVariants.{Scan, Within, Nowhere, After}
 use Rattle.scan.specs.Place.{ResumesWithin, Resumes}
 use Rattle.node.specs.declared.Node as declared
 use Rattle.node.specs.declared.Node.TheVariants.{Met, Ground, Split}
@@ -31,7 +31,7 @@ untaken_as untaken.TheVariants.Clique = clique
 
 -- A split on a term of a condition.
 abbrev pub split_on : Condition → written.Term → declared.Node
-split_on c t = Split (record { condition = c; a = t.a; b = t.b; after = t.next })
+split_on c t = Split (record { a = t.a; b = t.b; apart = Within c t.next })
 
 -- ---- what the marks of a node are looked up in
 
@@ -44,24 +44,26 @@ pub record Markable (map : Classes) (pairs : List ℕ) (count : ℕ) : Type 0 wh
 -- ---- what a split says of its apart branch
 
 -- A split on a term: in its condition, after the term.
+abbrev pub WithinTerm : List ℕ → Place → Decisions → Type 0
+WithinTerm s Scan ds = ⊥
+WithinTerm s (Within c r) ds = ResumesWithin s c.0 r.0 ds
+WithinTerm s Nowhere ds = ⊥
+WithinTerm s (After x y) ds = ⊥
+
 abbrev pub TermLeaves : List ℕ → declared.Node → Decisions → Type 0
 TermLeaves s Met ds = Unit {0}
 TermLeaves s (Ground c) ds = Unit {0}
-TermLeaves s (Split on) ds = ResumesWithin s on.condition.0 on.after.0 (apart on.a.0 on.b.0 ∷ ds)
+TermLeaves s (Split on) ds = WithinTerm s on.apart (apart on.a.0 on.b.0 ∷ ds)
 
--- A split on a pair of classes has no condition, which has number 0.
+-- A split on a pair of classes: after the pair.
 abbrev pub PairSplit : untaken.Untaken → Type 0
 PairSplit untaken.TheVariants.Met = Unit {0}
-PairSplit (untaken.TheVariants.Split on) = on.condition.0 ≡ 0
+PairSplit (untaken.TheVariants.Split on) = on.apart ≡ After on.a on.b
 PairSplit untaken.TheVariants.Clique = Unit {0}
-
--- Where the apart branch goes on: after the pair of classes, or in the condition after the term.
-abbrev pub apart_place : pair.Split → Place
-apart_place on = cond (eqb on.condition.0 0) (After on.a on.b) (Within on.condition on.after)
 
 -- It may go on there.
 abbrev pub SplitLeaves : Limit → ℕ → List ℕ → pair.Split → Decisions → Type 0
-SplitLeaves limit n s on ds = Resumes limit n s (apart_place on) (apart on.a.0 on.b.0 ∷ ds)
+SplitLeaves limit n s on ds = Resumes limit n s on.apart (apart on.a.0 on.b.0 ∷ ds)
 
 abbrev pub PairLeaves : Limit → ℕ → List ℕ → untaken.Untaken → Decisions → Type 0
 PairLeaves limit n s untaken.TheVariants.Met ds = Unit {0}

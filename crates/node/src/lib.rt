@@ -7,43 +7,24 @@ ghost use Rattle.sheet.specs.Conditions.{conditions};
 ghost use Rattle.equality.specs.Node.{Decisions, no_condition, classes, taken, node};
 ghost use Rattle.limit.specs.Meaning.{Limit, up_to};
 ghost use Rattle.limit.specs.Rule.{none_taken};
-ghost use Rattle.limit.specs.Scan.{ScanFrom, limit_of};
+ghost use Rattle.limit.specs.Scan.{ScanFrom, limit_in};
 ghost use Rattle.classes.specs.Maps.{ClassMap};
 ghost use Rattle.classes.specs.Pairs.{Represents};
 ghost use Rattle.marks.specs.Marks.{table_length, Room, Marks, Outside};
 ghost use Rattle.sheet.specs.Inner.{HasConditions, OnChain};
 ghost use Rattle.scan.specs.Place.{ResumesWithin, Stands, PlaceWithin, Rises};
-ghost use Rattle.node.specs.Found.{Markable, node_as, untaken_as, split_on, TermLeaves, PairSplit, apart_place, PairLeaves};
+ghost use Rattle.node.specs.Found.{Markable, node_as, untaken_as, split_on, TermLeaves, PairSplit, PairLeaves};
 
 use classes::Classes;
-use clique::Found;
 use scan::Place;
 use sheet::{Condition, Lot, Record, SAME, Term};
 
-// A split: its condition and its lots, and the record after the term that it splits on, where the apart branch resumes. A split on a pair of classes has
-// condition 0, and its apart branch resumes after the pair.
+// A split: its lots, and where its apart branch goes on: in its condition from the record after the term that it splits on, or after the pair of classes.
 #[derive(Clone, Copy)]
 pub struct Split {
-    pub condition: Condition,
     pub a: Lot,
     pub b: Lot,
-    pub after: Record,
-}
-
-impl Split {
-    // Where the apart branch goes on.
-    pub fn apart_place(self) -> Place
-        ensures { result ≡ apart_place self }
-    {
-        let c = self.condition;
-        if c.0 == 0 {
-            let a = self.a;
-            let b = self.b;
-            return Place::After(a, b);
-        }
-        let after = self.after;
-        Place::Within(c, after)
-    }
+    pub apart: Place,
 }
 
 // What a node is by its conditions: met, where it takes none; otherwise a ground or a split of the condition taken.
@@ -54,7 +35,8 @@ pub enum Node {
     Split(Split),
 }
 
-// What a node is that takes none, under a limit or none: met, a split on a pair of classes, or a clique.
+// What a node is that takes none, under a limit or none: met, a split on a pair of classes, or a clique. No variants of `Node`: with one enum for both, what
+// the node is came back through memory, and a search without a limit took up to a tenth more instructions (docs/DECISIONS.md).
 #[derive(Clone, Copy)]
 pub enum Untaken {
     Met,
@@ -66,14 +48,10 @@ pub enum Untaken {
 fn split_on(condition: Condition, t: Term) -> Node
     ensures { result ≡ split_on condition t }
 {
-    let a = t.a;
-    let b = t.b;
-    let after = t.next;
     Node::Split(Split {
-        condition,
-        a,
-        b,
-        after,
+        a: t.a,
+        b: t.b,
+        apart: Place::Within(condition, t.next),
     })
 }
 
@@ -198,13 +176,12 @@ fn under_limit(
     marks::stamp_pairs(pairs, place, &map.lots, count);
     let found = clique::first_open(&map.lots, pairs, place, x, y, first.end);
     match found {
-        Found::Open(low, high) => Untaken::Split(Split {
-            condition: Condition(0),
-            a: low,
-            b: high,
-            after: Record(0),
+        Some((a, b)) => Untaken::Split(Split {
+            a,
+            b,
+            apart: Place::After(a, b),
         }),
-        Found::Clique => Untaken::Clique,
+        None => Untaken::Clique,
     }
 }
 
@@ -232,24 +209,24 @@ pub fn node_at(
     }
 }
 
-// What a node is that takes no condition, under a limit or, where that is 0, none, of lots 0 to `lots`. Apart from `node_at`, so that a search's level has one
-// copy of the map for each of the two, and not one more; and asked only where no condition is taken, so that all other nodes go on as without a limit.
+// What a node is that takes no condition, under a limit or none, of lots 0 to `lots`. Apart from `node_at`, so that a search's level has one copy of the map
+// for each of the two, and not one more; and asked only where no condition is taken, so that all other nodes go on as without a limit.
 pub fn none_taken(
     map: Classes,
     lots: u16,
-    limit: u16,
+    limit: Option<u16>,
     pairs: &mut [u8],
     count: usize,
     place: Place,
 ) -> Untaken
     requires { Markable map pairs.old count × (lots ≤ most_lots) × Rises place }
-    ensures node { (s : List ℕ) (ds : Decisions) → Represents map pairs.old count ds → Stands (limit_of limit) lots s place ds → taken ds 1 (conditions s) ≡ no_condition → untaken_as result ≡ none_taken (limit_of limit) lots ds }
-    ensures leaves { (s : List ℕ) (ds : Decisions) → Represents map pairs.old count ds → Stands (limit_of limit) lots s place ds → taken ds 1 (conditions s) ≡ no_condition → PairLeaves (limit_of limit) lots s result ds }
+    ensures node { (s : List ℕ) (ds : Decisions) → Represents map pairs.old count ds → Stands (limit_in limit) lots s place ds → taken ds 1 (conditions s) ≡ no_condition → untaken_as result ≡ none_taken (limit_in limit) lots ds }
+    ensures leaves { (s : List ℕ) (ds : Decisions) → Represents map pairs.old count ds → Stands (limit_in limit) lots s place ds → taken ds 1 (conditions s) ≡ no_condition → PairLeaves (limit_in limit) lots s result ds }
     ensures outside { Outside pairs.old pairs.new (length pairs.old - table_length) }
 {
-    if limit == clique::NO_LIMIT {
+    let Some(limit) = limit else {
         return Untaken::Met;
-    }
+    };
     match place {
         Place::Within(_, _) => Untaken::Met,
         Place::Nowhere => under_limit(map, lots, limit, pairs, count, 0, 1),

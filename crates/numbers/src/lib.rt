@@ -2,26 +2,19 @@
 #![tactic(auto)]
 
 ghost use Rattle.std.specs.Prelude.{◌≡◌};
-ghost use Rattle.sheet.specs.Answers.{refused, answered, reading_answer};
-ghost use Rattle.evaluator.specs.Answers.{evaluation_answer};
-ghost use Rattle.counter.specs.Answers.{counting_answer};
-ghost use Rattle.search.specs.Answers.{search_answer};
-ghost use Rattle.checker.specs.Answers.{checked_answer};
-ghost use Rattle.writer.specs.Answers.{written_answer};
+ghost use Rattle.sheet.specs.Answers.{Answer, answered, result_answer};
+ghost use Rattle.evaluator.specs.Answers.{unmet_answer};
+ghost use Rattle.search.specs.Answers.{found_answer};
 ghost use Rattle.merge.specs.Answers.{merged_answer, sheet_refused};
-ghost use Rattle.numbers.specs.Answers.{numbers_of, merge_numbers};
+ghost use Rattle.numbers.specs.Answers.{numbers_of, refusal_numbers, merge_numbers};
 
-use checker::CheckAnswer;
-use counter::Counting;
-use evaluator::Evaluation;
-use merge::MergeAnswer;
-use search::SearchAnswer;
-use sheet::Reading;
-use writer::WriteAnswer;
+use merge::MergeRefusal;
+use search::Found;
+use sheet::{Condition, Header, Refusal};
 
 // An answer: the check that refused, 0 where none did, then the place, or the values. Behind the place a merge has the number of the sheet that was refused.
 #[repr(C)]
-#[derive(Clone, Copy)]
+#[derive(Clone, Copy, Debug, PartialEq, Eq)]
 pub struct Numbers {
     pub check: u32,
     pub first: u32,
@@ -29,15 +22,12 @@ pub struct Numbers {
     pub third: u32,
 }
 
-fn refused(check: u32, place: u32) -> Numbers
-    ensures { result ≡ numbers_of (refused check place) }
-{
-    Numbers {
-        check,
-        first: place,
-        second: 0,
-        third: 0,
-    }
+// What a service answers where it doesn't refuse: its values.
+pub trait Values {
+    ghost answer: { Self → Answer };
+
+    fn numbers(self) -> Numbers
+        ensures { result ≡ numbers_of (answer self) };
 }
 
 fn answered(first: u32, second: u32, third: u32) -> Numbers
@@ -51,85 +41,93 @@ fn answered(first: u32, second: u32, third: u32) -> Numbers
     }
 }
 
-pub fn of_reading(reading: Reading) -> Numbers
-    ensures { result ≡ numbers_of (reading_answer reading) }
-{
-    match reading {
-        Reading::Refused { check, place } => refused(check, place),
-        Reading::Accepted {
-            lots,
-            conditions,
-            records,
-        } => answered(lots as u32, conditions as u32, records as u32),
+// The reader: lots, conditions and term records.
+impl Values for Header {
+    ghost answer = { λ h. answered h.lots h.conditions h.records };
+
+    fn numbers(self) -> Numbers {
+        answered(
+            self.lots as u32,
+            self.conditions as u32,
+            self.records as u32,
+        )
     }
 }
 
-pub fn of_evaluation(evaluation: Evaluation) -> Numbers
-    ensures { result ≡ numbers_of (evaluation_answer evaluation) }
-{
-    match evaluation {
-        Evaluation::Refused { check, place } => refused(check, place),
-        Evaluation::Unmet(c) => answered(c.0 as u32, 0, 0),
-        Evaluation::AllMet => answered(0, 0, 0),
+// The evaluator: the lowest condition that isn't met, if there is one.
+impl Values for Option<Condition> {
+    ghost answer = { unmet_answer };
+
+    fn numbers(self) -> Numbers {
+        match self {
+            Some(c) => answered(c.0 as u32, 0, 0),
+            None => answered(0, 0, 0),
+        }
     }
 }
 
-pub fn of_counting(counting: Counting) -> Numbers
-    ensures { result ≡ numbers_of (counting_answer counting) }
-{
-    match counting {
-        Counting::Refused { check, place } => refused(check, place),
-        Counting::Count(count) => answered(count, 0, 0),
+// A count of unmet conditions, or the length of what was written.
+impl Values for u32 {
+    ghost answer = { λ n. answered n 0 0 };
+
+    fn numbers(self) -> Numbers {
+        answered(self, 0, 0)
     }
 }
 
-pub fn of_search(answer: SearchAnswer) -> Numbers
-    ensures { result ≡ numbers_of (search_answer answer) }
-{
-    match answer {
-        SearchAnswer::Refused { check, place } => refused(check, place),
-        SearchAnswer::Full { capacity } => refused(9, capacity),
-        SearchAnswer::Met { count } => answered(1, count, 0),
-        SearchAnswer::Cannot { count } => answered(2, count, 0),
+// The search: 1 for met or 2 for cannot, and the count of records.
+impl Values for Found {
+    ghost answer = { found_answer };
+
+    fn numbers(self) -> Numbers {
+        match self {
+            Found::Met { count } => answered(1, count, 0),
+            Found::Cannot { count } => answered(2, count, 0),
+        }
     }
 }
 
-pub fn of_check(answer: CheckAnswer) -> Numbers
-    ensures { result ≡ numbers_of (checked_answer answer) }
-{
-    match answer {
-        CheckAnswer::Refused { check, place } => refused(check, place),
-        CheckAnswer::Passed => answered(0, 0, 0),
+// The refutation checker has no value for a list that passes.
+impl Values for () {
+    ghost answer = { λ _. answered 0 0 0 };
+
+    fn numbers(self) -> Numbers {
+        answered(0, 0, 0)
     }
 }
 
-pub fn of_written(answer: WriteAnswer) -> Numbers
-    ensures { result ≡ numbers_of (written_answer answer) }
-{
-    match answer {
-        WriteAnswer::Refused { check, place } => refused(check, place),
-        WriteAnswer::Written { length } => answered(length, 0, 0),
-    }
-}
-
-fn refused_in(check: u32, place: u32, sheet: u32) -> Numbers
-    ensures { result ≡ merge_numbers (refused check place) sheet }
+// A refusal is its check and its place; a sheet's number stands behind them where a merge was refused when it read that.
+fn refused(refusal: Refusal, sheet: u32) -> Numbers
+    ensures { result ≡ refusal_numbers refusal sheet }
 {
     Numbers {
-        check,
-        first: place,
+        check: refusal.check(),
+        first: refusal.place(),
         second: sheet,
         third: 0,
     }
 }
 
-pub fn of_merge(answer: MergeAnswer) -> Numbers
-    ensures { result ≡ merge_numbers (merged_answer answer) (sheet_refused answer) }
-{
-    match answer {
-        MergeAnswer::FirstRefused { check, place } => refused_in(check, place, 1),
-        MergeAnswer::SecondRefused { check, place } => refused_in(check, place, 2),
-        MergeAnswer::Refused { check, place } => refused(check, place),
-        MergeAnswer::Written { length } => answered(length, 0, 0),
+impl<T: Values> From<Result<T, Refusal>> for Numbers {
+    ghost from_gives = { λ r n. n ≡ numbers_of (result_answer T.answer r) };
+
+    fn from(answer: Result<T, Refusal>) -> Numbers {
+        match answer {
+            Ok(values) => values.numbers(),
+            Err(refusal) => refused(refusal, 0),
+        }
+    }
+}
+
+impl From<Result<u32, MergeRefusal>> for Numbers {
+    ghost from_gives = { λ r n. n ≡ merge_numbers (merged_answer r) (sheet_refused r) };
+
+    fn from(answer: Result<u32, MergeRefusal>) -> Numbers {
+        match answer {
+            Ok(length) => length.numbers(),
+            Err(MergeRefusal::First(refusal)) => refused(refusal, 1),
+            Err(MergeRefusal::Second(refusal)) => refused(refusal, 2),
+            Err(MergeRefusal::Both(refusal)) => refused(refusal, 0),
+        }
     }
 }

@@ -7,8 +7,7 @@ use native.Mathlib.Omega.{arith}
 use borrow.Author.Tests.{lt-ltb, le-ltb, ne_eqb}
 use lib.Dec.{ltb}
 use lib.ListN.{length}
-use Rattle.sheet.specs.declared.Verdict.{Verdict}
-use Rattle.sheet.specs.declared.Verdict.TheVariants.{Passes, Refuses}
+use Rattle.sheet.specs.Verdicts.{Verdict, Passes, Refuses}
 use Rattle.sheet.specs.Format.{lot_count}
 use Rattle.sheet.specs.Checks.{Accepted, sheet_verdict, or_else, refuses_if, first_refusal}
 use Rattle.sheet.proofs.Verdicts.{passes-first_refusal, first_refusal-passes}

@@ -10,8 +10,7 @@ use borrow.Author.Tests.{le-leb, lt-leb, le-ltb, eq-eqb, ne_eqb}
 use lib.Dec.{eqb}
 use lib.ListN.{length, length-append}
 use lib.Seq.{get_or-append_seam}
-use Rattle.sheet.specs.declared.Verdict.{Verdict}
-use Rattle.sheet.specs.declared.Verdict.TheVariants.{Passes}
+use Rattle.sheet.specs.Verdicts.{Verdict, Passes}
 use Rattle.sheet.specs.Format.{lowest_lot, lot_count, condition_count}
 use Rattle.sheet.specs.Checks.{Accepted, or_else, refuses_if, first_refusal, lot_in_range}
 use Rattle.sheet.proofs.Accepted.{sound, lot_in}

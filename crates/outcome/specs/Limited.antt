@@ -1,6 +1,6 @@
 -- The outcome of a search with a limit on the classes or without one (document 02, job 7): the checks before it, the answer and the two buffers afterwards.
 use Rattle.std.specs.Prelude.{ℕ, true, List, [], ◌∷◌, ◌++◌, ◌↔◌, ◌≡◌, ltb}
-use Rattle.sheet.specs.declared.Verdict.{Verdict}
+use Rattle.sheet.specs.Verdicts.{Verdict}
 use Rattle.sheet.specs.Format.{lot_count}
 use Rattle.sheet.specs.Conditions.{InLots, conditions}
 use Rattle.sheet.specs.Checks.{or_else, refuses_if, first_refusal, sheet_checks}

@@ -2,8 +2,7 @@
 -- "The node store", second part, and checks 1 to 9 of its table).
 use Rattle.std.specs.Prelude.{ℕ, ◌*◌, Bool, true, false, List, ◌↔◌, ◌≡◌, ltb, replicate}
 use Rattle.buffers.specs.Written.{written}
-use Rattle.sheet.specs.declared.Verdict.{Verdict}
-use Rattle.sheet.specs.declared.Verdict.TheVariants.{Passes, Refuses}
+use Rattle.sheet.specs.Verdicts.{Verdict, Passes, Refuses}
 use Rattle.sheet.specs.Format.{lowest_lot, lot_count}
 use Rattle.sheet.specs.Conditions.{InLots, conditions}
 use Rattle.sheet.specs.Checks.{or_else, refuses_if}

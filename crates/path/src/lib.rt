@@ -14,7 +14,7 @@ use store::NodeNumber;
 // The numbers of a split: its record number, its next, the branch taken, lot a, lot b. A record number has 32 bits, so that no list is too long for it.
 pub const SPLIT_LENGTH: usize = 5;
 
-// The branch taken is written as the sign of its decision.
+// The branch taken is written as the sign of its decision, among lent numbers, where `split_in` reads it.
 const SAME_BRANCH: u32 = sheet::SAME as u32;
 
 const APART_BRANCH: u32 = sheet::APART as u32;
@@ -52,8 +52,8 @@ fn push_at(splits: &mut [u32], depth: usize, split: Split) -> usize
     splits[at] = split.number.0;
     splits[at + 1] = split.next.0;
     splits[at + 2] = SAME_BRANCH;
-    splits[at + 3] = split.a.0 as u32;
-    splits[at + 4] = split.b.0 as u32;
+    splits[at + 3] = u32::from(split.a.0);
+    splits[at + 4] = u32::from(split.b.0);
     depth + 1
 }
 
@@ -70,9 +70,7 @@ pub fn push_split<'s, 'a>(p: &'s mut Path<'a>, split: Split)
     requires { split_length * p.old.depth + split_length ≤ length p.old.splits.now }
     ensures { p.new ≡ pushed_path p.old split }
 {
-    let depth = p.depth;
-    let next = push_at(&mut *p.splits, depth, split);
-    p.depth = next;
+    p.depth = push_at(p.splits, p.depth, split);
 }
 
 // The top split of the lent path goes to its apart branch.
@@ -80,8 +78,7 @@ pub fn turn_split<'s, 'a>(p: &'s mut Path<'a>)
     requires { (0 < p.old.depth) × (split_length * p.old.depth ≤ length p.old.splits.now) }
     ensures { p.new ≡ turned_path p.old }
 {
-    let depth = p.depth;
-    turn_at(&mut *p.splits, depth);
+    turn_at(p.splits, p.depth);
 }
 
 // The top split of the lent path is dropped: its numbers stay, and count no more.
@@ -89,7 +86,7 @@ pub fn drop_split<'s, 'a>(p: &'s mut Path<'a>)
     requires { 0 < p.old.depth }
     ensures { p.new ≡ dropped_path p.old }
 {
-    p.depth = p.depth - 1;
+    p.depth -= 1;
 }
 
 // A split goes on top, in its same branch: the numbers are lent as a path, and the new number of splits is handed back.
@@ -135,7 +132,7 @@ pub fn drop_last(path: &mut [u32], depth: usize) -> usize
     p.depth
 }
 
-// The nearest split still in its same branch: how many splits stand above and with it, or 0 where there is none. Those nearer are over, and dropped.
+// The nearest split still in its same branch: how many splits stand above and with it, or 0 where there is none (`nearest_as` reads it so). Those nearer are over, and dropped.
 pub fn nearest(path: &mut [u32], depth: usize) -> usize
     requires { split_length * depth ≤ length path.old }
     ensures within { result ≤ depth }
@@ -143,6 +140,7 @@ pub fn nearest(path: &mut [u32], depth: usize) -> usize
     ensures numbers { path.new ≡ path.old }
 {
     let mut top = depth;
+    // No `for`: the law has a split dropped from the lent path, and `drop_last`, which does that, counts down.
     while 0 < top {
         let branch = path[SPLIT_LENGTH * (top - 1) + 2];
         if branch == SAME_BRANCH {

@@ -6,8 +6,6 @@
 // printed text. There is room for 16,384 bytes of cases and 2,048 of a sheet, which is plenty for these. tests/make_examples.py writes the input.
 #![tactic(auto)]
 
-ghost use Rattle.std.specs.Prelude.{◌<◌, ◌≤◌, length, IfOk};
-
 use std::io;
 use std::io::{Read, Write};
 
@@ -21,32 +19,20 @@ fn main(rt: HostRuntime) -> io::Result<()> {
 }
 
 fn print_all(cases: &[u8], out: &mut impl Write) -> io::Result<()> {
-    let mut at = 0;
-    while at < cases.len() {
-        at = print_case(cases, at, out)?;
+    for line in cases.split_inclusive(|byte| *byte == b'\n') {
+        print_case(line.strip_suffix(b"\n").unwrap_or(line), out)?;
     }
     Ok(())
 }
 
-// One line; the place after it.
-fn print_case(cases: &[u8], at: usize, out: &mut impl Write) -> io::Result<usize>
-    requires { at < length cases.now }
-    ensures low { IfOk result (λ after. at < after) }
-    ensures high { IfOk result (λ after. after ≤ length cases.now) }
-{
-    let end = raw::find(cases, at, cases.len(), b'\n');
-    let label = raw::find(cases, at, end, b':');
-    out.write_all(&cases[at..label])?;
+// A line: its label, and the text of the sheet that it has in hexadecimal.
+fn print_case(line: &[u8], out: &mut impl Write) -> io::Result<()> {
+    let label = raw::find(line, 0, line.len(), b':');
+    out.write_all(&line[..label])?;
     out.write_all(b"\n")?;
-    print_sheet(&cases[label..end], out)?;
-    Ok(if end < cases.len() { end + 1 } else { end })
-}
-
-// The text of the sheet that a line has in hexadecimal.
-fn print_sheet(digits: &[u8], out: &mut impl Write) -> io::Result<()> {
-    let mut sheet = [0u8; 2048];
-    let mut printed = [0u8; text::TEXT_ROOM];
-    let n = hexadecimal::decode(digits, &mut sheet);
+    let mut sheet = [0; 2048];
+    let mut printed = [0; text::TEXT_ROOM];
+    let n = hexadecimal::decode(&line[label..], &mut sheet);
     let len = text::print(&sheet[..n], &mut printed);
     out.write_all(&printed[..len])
 }

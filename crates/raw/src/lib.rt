@@ -1,7 +1,8 @@
-// Bytes and two-byte numbers of a buffer. What lies outside it reads as 0 and is not written.
+// Bytes, two-byte numbers and records of a buffer. What lies outside it reads as 0 and is not written.
 #![tactic(auto)]
 
 ghost use Rattle.std.specs.Prelude.{◌≡◌, ◌≢◌, ℕ, ◌+◌, ◌-◌, ◌*◌, ◌<◌, ◌≤◌, ◌++◌, drop, length, min, set, slice_index, take, ◌%◌, ◌/◌};
+ghost use Rattle.raw.specs.Records.{number, with_record};
 
 pub fn byte_at(bytes: &[u8], at: usize) -> u8
     ensures { result ≡ slice_index bytes.now at }
@@ -13,9 +14,7 @@ pub fn number_at(bytes: &[u8], at: usize) -> u16
     ensures { result ≡ slice_index bytes.now at + 256 * slice_index bytes.now (at + 1) }
 {
     if at < bytes.len() {
-        let low = byte_at(bytes, at) as u16;
-        let high = byte_at(bytes, at + 1) as u16;
-        low + 256 * high
+        u16::from_le_bytes([byte_at(bytes, at), byte_at(bytes, at + 1)])
     } else {
         0
     }
@@ -33,12 +32,13 @@ pub fn put_number(bytes: &mut [u8], at: usize, value: u16)
     ensures { bytes.new ≡ set (set bytes.old at (value % 256)) (at + 1) (value / 256) }
 {
     if at < bytes.len() {
-        put(bytes, at, (value % 256) as u8);
-        put(bytes, at + 1, (value / 256) as u8);
+        let [low, high] = value.to_le_bytes();
+        put(bytes, at, low);
+        put(bytes, at + 1, high);
     }
 }
 
-// The first place from `from` on, below `end`, that holds the byte, or `end` where none does.
+// The first place from `from` on, below `end`, that holds the byte, or `end` where none does: its clauses and edits hold that form.
 pub fn find(bytes: &[u8], from: usize, end: usize, byte: u8) -> usize
     ensures low { from ≤ end → from ≤ result }
     ensures high { result ≤ end }
@@ -63,12 +63,19 @@ pub fn copy(from: &[u8], to: &mut [u8]) -> usize
     n
 }
 
+// Where the head stands of the condition that has c before it.
+pub fn head_field(c: u16) -> usize
+    ensures { result ≡ 6 + 2 * c }
+{
+    6 + 2 * (c as usize)
+}
+
 // Where a field of a record stands, where the records begin at `start`; record 0 is taken as the first.
 fn field(start: usize, r: u16, offset: u8) -> usize
     requires { start ≤ 1000000 }
     ensures { result ≡ start + 8 * (r - 1) + offset }
 {
-    let before = if r == 0 { 0 } else { r - 1 };
+    let before = r.saturating_sub(1);
     start + 8 * (before as usize) + (offset as usize)
 }
 
@@ -83,4 +90,46 @@ pub fn node_field(r: u16, offset: u8) -> usize
     ensures { result ≡ 8 * (r - 1) + offset }
 {
     field(0, r, offset)
+}
+
+// The eight bytes of a record: of a term, whose kind is its sign, or of a node.
+#[derive(Clone, Copy, Debug, Default, PartialEq, Eq)]
+pub struct Record {
+    pub kind: u8,
+    pub spare: u8,
+    pub first: u16,
+    pub second: u16,
+    pub next: u16,
+}
+
+pub fn record_at(bytes: &[u8], at: usize) -> Record
+    ensures kind { result.kind ≡ slice_index bytes.now at }
+    ensures spare { result.spare ≡ slice_index bytes.now (at + 1) }
+    ensures first { result.first ≡ number bytes.now (at + 2) }
+    ensures second { result.second ≡ number bytes.now (at + 4) }
+    ensures next { result.next ≡ number bytes.now (at + 6) }
+{
+    if at < bytes.len() {
+        Record {
+            kind: byte_at(bytes, at),
+            spare: byte_at(bytes, at + 1),
+            first: number_at(bytes, at + 2),
+            second: number_at(bytes, at + 4),
+            next: number_at(bytes, at + 6),
+        }
+    } else {
+        Record::default()
+    }
+}
+
+pub fn put_record(bytes: &mut [u8], at: usize, node: Record)
+    ensures { bytes.new ≡ with_record bytes.old at node }
+{
+    if at < bytes.len() {
+        put(bytes, at, node.kind);
+        put(bytes, at + 1, node.spare);
+        put_number(bytes, at + 2, node.first);
+        put_number(bytes, at + 4, node.second);
+        put_number(bytes, at + 6, node.next);
+    }
 }

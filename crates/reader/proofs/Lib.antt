@@ -1,3 +1,4 @@
 mod Tests
 mod Flags
 mod WalkLoops
+mod Order

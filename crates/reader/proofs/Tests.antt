@@ -10,8 +10,7 @@ use borrow.Author.Tests.{ne_eqb}
 use Rattle.buffers.specs.Bytes.{number}
 use Rattle.sheet.specs.declared.Header.{Header}
 use Rattle.sheet.specs.declared.Term.{Term}
-use Rattle.sheet.specs.declared.Verdict.TheVariants.{Passes}
-use Rattle.sheet.specs.declared.Verdict.{Verdict}
+use Rattle.sheet.specs.Verdicts.{Verdict, Passes}
 use Rattle.sheet.specs.Format.{lowest_lot, same_sign, apart_sign, most_lots, most_conditions, most_records, header_length, sheet_length, lot_count, record_count, sign_at, spare_at, first_lot_at, second_lot_at, next_at}
 use Rattle.sheet.specs.Checks.{or_else, first_refusal, refuses_if, check1, check2, check3, lot_in_range, well_formed, header_checks}
 use Rattle.sheet.specs.Inner.{header_at, term_record_at, sign_spare_at}

@@ -7,8 +7,7 @@ use native.Mathlib.Numerals.{add-one}
 use native.Mathlib.Omega.{arith}
 use lib.ListN.{length, get_or, set, length-set}
 use borrow.Author.Tests.{eq-eqb, ne_eqb}
-use Rattle.sheet.specs.declared.Verdict.TheVariants.{Passes, Refuses}
-use Rattle.sheet.specs.declared.Verdict.{Verdict}
+use Rattle.sheet.specs.Verdicts.{Verdict, Passes, Refuses}
 use Rattle.sheet.specs.Format.{condition_count, record_count, head_at, next_at, vacant}
 use Rattle.sheet.specs.Checks.{Walk, reached, twice, into_vacant, member, walk_chain, walk_chains, walked, chains_verdict, reached_by, or_else, lowest_refusal, check17_and6, check7}
 use Rattle.sheet.specs.Inner.{Flags, is_flagged, one_chain, WalkedTo, unflagged_verdict}

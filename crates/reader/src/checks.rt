@@ -1,65 +1,61 @@
 // Checks 1 to 5 and 7.
-ghost use Rattle.std.specs.Prelude.{◌≡◌, not, ◌||◌, ◌≤◌, eqb};
+ghost use Rattle.std.specs.Prelude.{◌≡◌, not, ◌||◌, ◌≤◌, eqb, IfOk};
 ghost use Rattle.sheet.specs.Format.{lowest_lot, record_count, same_sign, apart_sign, vacant};
+ghost use Rattle.sheet.specs.Refusals.{verdict_of};
 ghost use Rattle.sheet.specs.Checks.{first_refusal, header_checks, check4, check5, well_formed};
 ghost use Rattle.sheet.specs.Inner.{HasHeader, HasRecord, Flaggable, header_at, is_flagged, unflagged_verdict};
 
-use sheet::{APART, Condition, Header, Record, SAME, Verdict, format, in_lots};
+use sheet::{APART, Condition, Header, Record, Refusal, SAME, format, in_lots};
 
-// Checks 1 to 3: the header and the length.
-pub(crate) fn header(sheet: &[u8]) -> Verdict
-    ensures { result ≡ first_refusal (header_checks sheet.now) }
+// Checks 1 to 3: the header and the length. The header of a sheet that passes.
+pub(crate) fn header(sheet: &[u8]) -> Result<Header, Refusal>
+    ensures verdict { verdict_of result ≡ first_refusal (header_checks sheet.now) }
+    ensures header { IfOk result (λ h. h ≡ header_at sheet.now) }
 {
     if sheet.len() < 6 {
-        return Verdict::Refuses(1, 0);
+        return Err(Refusal::ShortHeader);
     }
     let h = format::header_of(sheet);
     if 128 < h.lots {
-        return Verdict::Refuses(2, 1);
+        return Err(Refusal::TooManyLots);
     }
     if 256 < h.conditions {
-        return Verdict::Refuses(2, 2);
+        return Err(Refusal::TooManyConditions);
     }
     if 1024 < h.records {
-        return Verdict::Refuses(2, 3);
+        return Err(Refusal::TooManyRecords);
     }
     if sheet.len() != 6 + 2 * (h.conditions as usize) + 8 * (h.records as usize) {
-        return Verdict::Refuses(3, 0);
+        return Err(Refusal::WrongLength);
     }
-    Verdict::Passes
+    Ok(h)
 }
 
 // Check 4: each head is at most k.
-pub(crate) fn heads(sheet: &[u8], h: Header) -> Verdict
+pub(crate) fn heads(sheet: &[u8], h: Header) -> Result<(), Refusal>
     requires { HasHeader sheet.now h }
-    ensures { result ≡ check4 sheet.now }
+    ensures { verdict_of result ≡ check4 sheet.now }
 {
-    let m = h.conditions;
-    let mut c: u16 = 1;
-    while c <= m {
+    for c in 1..=h.conditions {
         let head = format::head_at(sheet, Condition(c));
         if h.records < head.0 {
-            return Verdict::Refuses(4, c as u32);
+            return Err(Refusal::HeadTooHigh(Condition(c)));
         }
-        c += 1;
     }
-    Verdict::Passes
+    Ok(())
 }
 
 // Check 5: each record is vacant or well formed.
-pub(crate) fn records(sheet: &[u8], h: Header) -> Verdict
+pub(crate) fn records(sheet: &[u8], h: Header) -> Result<(), Refusal>
     requires { HasHeader sheet.now h }
-    ensures { result ≡ check5 lowest_lot sheet.now }
+    ensures { verdict_of result ≡ check5 lowest_lot sheet.now }
 {
-    let k = h.records;
-    let mut r: u16 = 1;
-    while r <= k {
+    for r in 1..=h.records {
         if !vacant_or_formed(sheet, h, Record(r)) {
-            return Verdict::Refuses(5, r as u32);
+            return Err(Refusal::IllFormed(Record(r)));
         }
-        r += 1;
     }
-    Verdict::Passes
+    Ok(())
 }
 
 // A record is vacant or well formed. Most are well formed, so that is asked first.
@@ -99,19 +95,16 @@ fn sign_known(x: u16) -> bool
 }
 
 // Check 7: each record is vacant or flagged as reached.
-pub(crate) fn reached(sheet: &[u8], h: Header, flags: &[u8]) -> Verdict
+pub(crate) fn reached(sheet: &[u8], h: Header, flags: &[u8]) -> Result<(), Refusal>
     requires { Flaggable sheet.now h flags.now }
-    ensures { result ≡ unflagged_verdict sheet.now flags.now }
+    ensures { verdict_of result ≡ unflagged_verdict sheet.now flags.now }
 {
-    let k = h.records;
-    let mut r: u16 = 1;
-    while r <= k {
+    for r in 1..=h.records {
         if left_out(sheet, h, flags, Record(r)) {
-            return Verdict::Refuses(7, r as u32);
+            return Err(Refusal::NeverReached(Record(r)));
         }
-        r += 1;
     }
-    Verdict::Passes
+    Ok(())
 }
 
 // A record is neither flagged nor vacant. Flag i is that of record i + 1; check 5 has passed, so a record without a sign is vacant.

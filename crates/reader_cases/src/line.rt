@@ -1,66 +1,48 @@
-// Numbers in a line of text.
-ghost use Rattle.std.specs.Prelude.{◌<◌, ◌≤◌, length};
+// Words of a text, from its start on.
+ghost use Rattle.std.specs.Prelude.{◌≡◌, ◌-◌, ◌<◌, ◌≤◌, length, IfSome};
 
-// The first place, from `at` on, that holds the byte, or the end of the text.
-pub fn find(text: &[u8], at: usize, byte: u8) -> usize
-    requires { at ≤ length text.now }
-    ensures { (at ≤ result) × (result ≤ length text.now) }
-{
-    let mut i = at;
-    while i < text.len() {
-        if text[i] == byte {
-            return i;
-        }
-        i += 1;
-    }
-    i
-}
-
-// The first place, from `at` on, that holds no blank, or the end of the text.
-pub fn skip(text: &[u8], at: usize) -> usize
-    requires { at ≤ length text.now }
-    ensures { (at ≤ result) × (result ≤ length text.now) }
-{
-    let mut i = at;
-    while i < text.len() {
-        if text[i] != b' ' {
-            return i;
-        }
-        i += 1;
-    }
-    i
-}
-
-// A number of a line, and the place after it.
+// What is left of a text.
 #[derive(Clone, Copy)]
-pub struct Number {
-    pub value: u16,
-    pub at: usize,
+pub struct Text<'a> {
+    pub rest: &'a [u8],
 }
 
-// The decimal number after the blanks at a place, 65,535 at most; 0 where there is none.
-pub fn number_at(text: &[u8], at: usize) -> Number
-    requires { at ≤ length text.now }
-    ensures { (at ≤ result.at) × (result.at ≤ length text.now) }
-{
-    let mut i = skip(text, at);
-    let mut value: u32 = 0;
-    while i < text.len() {
-        let byte = text[i];
-        if byte < b'0' {
-            break;
-        }
-        if b'9' < byte {
-            break;
-        }
-        if 6553 < value {
-            break;
-        }
-        value = 10 * value + ((byte - 48) as u32);
-        i += 1;
+impl<'a> Text<'a> {
+    // The next byte.
+    pub fn next(&mut self) -> Option<u8>
+        ensures some { IfSome result (λ _. 0 < length self.old.rest.now) }
+        ensures left { length self.new.rest.now ≡ length self.old.rest.now - 1 }
+    {
+        let (byte, rest) = self.rest.split_first()?;
+        self.rest = rest;
+        Some(*byte)
     }
-    Number {
-        value: (value % 65536) as u16,
-        at: i,
+
+    // The bytes before the first that ends them, or all that is left.
+    pub fn until<F: FnMut(&u8) -> bool>(&mut self, ends: F) -> &'a [u8]
+        requires { F.IsAlwaysCallable ends }
+        ensures { length self.new.rest.now ≤ length self.old.rest.now }
+    {
+        let rest = self.rest;
+        let end = rest.iter().position(ends).unwrap_or(rest.len());
+        let (before, after) = rest.split_at(end);
+        self.rest = after;
+        before
+    }
+
+    // The decimal number after any blanks, 65,535 at most; 0 where there is none.
+    pub fn number(&mut self) -> u16
+        ensures { length self.new.rest.now ≤ length self.old.rest.now }
+    {
+        self.until(|byte| *byte != b' ');
+        let mut value: u32 = 0;
+        while let Some((byte, rest)) = self.rest.split_first() {
+            if !byte.is_ascii_digit() || 6553 < value {
+                break;
+            }
+            value = 10 * value + u32::from(*byte - b'0');
+            self.rest = rest;
+        }
+        (value % 65536) as u16
     }
 }

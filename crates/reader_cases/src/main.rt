@@ -7,12 +7,14 @@
 // lots, x R V the next; v R 0 makes record R vacant; l LENGTH 0 cuts the sheet, or lengthens it. Standard output has the label and the answer.
 #![tactic(auto)]
 
-mod line; // line.rt: places and numbers in the text
+mod line; // line.rt: words and numbers of the text
 mod plain; // plain.rt: the sheet in the making
 
-ghost use Rattle.std.specs.Prelude.{◌<◌, ◌≤◌, length, IfOk};
+ghost use Rattle.std.specs.Prelude.{◌<◌, length};
 
-use sheet::Reading;
+use line::Text;
+use plain::Sheet;
+use sheet::{Header, Refusal};
 use std::io;
 use std::io::{Read, Write};
 
@@ -25,82 +27,57 @@ fn main(rt: HostRuntime) -> io::Result<()> {
     cases(&text, &mut io::writer(&rt))
 }
 
-fn cases(text: &[u8], out: &mut impl Write) -> io::Result<()> {
-    let mut bytes = [0u8; plain::ROOM];
-    let mut at = 0;
-    while at < text.len() {
-        at = case(text, at, &mut bytes, out)?;
+fn cases(bytes: &[u8], out: &mut impl Write) -> io::Result<()> {
+    let mut text = Text { rest: bytes };
+    while !text.rest.is_empty() {
+        case(&mut text, out)?;
     }
     Ok(())
 }
 
-// One line; the place after it.
-fn case(
-    text: &[u8],
-    at: usize,
-    bytes: &mut [u8; plain::ROOM],
-    out: &mut impl Write,
-) -> io::Result<usize>
-    requires { at < length text.now }
-    ensures low { IfOk result (λ after. at < after) }
-    ensures high { IfOk result (λ after. after ≤ length text.now) }
+// A case: its label, and what the reader answers to its sheet, where there is room for that.
+fn case(text: &mut Text, out: &mut impl Write) -> io::Result<()>
+    requires { 0 < length text.old.rest.now }
+    ensures { length text.new.rest.now < length text.old.rest.now }
 {
-    let label = line::find(text, at, b':');
-    let end = line::find(text, label, b'\n');
-    out.write_all(&text[at..label])?;
-    let len = sheet_of(&text[label..end], bytes);
-    answer(&bytes[..], len, out)?;
-    Ok(if end < text.len() { end + 1 } else { end })
-}
-
-// The sheet that a line describes from its colon on, made in `bytes`; its length.
-fn sheet_of(text: &[u8], bytes: &mut [u8; plain::ROOM]) -> usize {
-    if text.len() == 0 {
-        return 0;
+    let label = text.until(|byte| *byte == b':');
+    let line = text.until(|byte| *byte == b'\n');
+    text.next();
+    out.write_all(label)?;
+    match sheet_of(Text { rest: line }).bytes() {
+        Some(bytes) => say(reader::read(bytes), out),
+        None => Ok(()),
     }
-    let n = line::number_at(text, 1);
-    let m = line::number_at(text, n.at);
-    let k = line::number_at(text, m.at);
-    plain::plain(bytes, n.value, m.value, k.value);
-    let len = 6 + 2 * (m.value as usize) + 8 * (k.value as usize);
-    changes(text, k.at, bytes, m.value, len)
 }
 
-// The changes from a place on; the sheet's length after them.
-fn changes(text: &[u8], at: usize, bytes: &mut [u8; plain::ROOM], m: u16, len: usize) -> usize
-    requires { at ≤ length text.now }
-{
-    let mut length = len;
-    let mut i = line::skip(text, at);
-    while i < text.len() {
-        let letter = text[i];
-        let place = line::number_at(text, i + 1);
-        let value = line::number_at(text, place.at);
-        if letter == b'l' {
-            length = place.value as usize;
-        } else {
-            plain::change(bytes, m, letter, place.value, value.value);
-        }
-        i = line::skip(text, value.at);
+// The sheet that a line describes from its colon on.
+fn sheet_of(mut line: Text) -> Sheet {
+    if line.next().is_none() {
+        return Sheet::empty();
     }
-    length
-}
-
-// What the reader answers to the first bytes.
-fn answer(bytes: &[u8], len: usize, out: &mut impl Write) -> io::Result<()> {
-    if len <= bytes.len() {
-        say(reader::read(&bytes[..len]), out)?;
+    let n = line.number();
+    let m = line.number();
+    let k = line.number();
+    let mut sheet = Sheet::plain(n, m, k);
+    line.until(|byte| *byte != b' ');
+    while let Some(letter) = line.next() {
+        let place = line.number();
+        let value = line.number();
+        sheet.change(letter, place, value);
+        line.until(|byte| *byte != b' ');
     }
-    Ok(())
+    sheet
 }
 
-fn say(reading: Reading, out: &mut impl Write) -> io::Result<()> {
+fn say(reading: Result<Header, Refusal>, out: &mut impl Write) -> io::Result<()> {
     match reading {
-        Reading::Accepted {
-            lots,
-            conditions,
-            records,
-        } => writeln!(out, ": accepted {lots} {conditions} {records}"),
-        Reading::Refused { check, place } => writeln!(out, ": refused {check} {place}"),
+        Ok(
+            Header {
+                lots,
+                conditions,
+                records,
+            },
+        ) => writeln!(out, ": accepted {lots} {conditions} {records}"),
+        Err(refusal) => writeln!(out, ": {refusal}"),
     }
 }

@@ -2,7 +2,7 @@
 use Prim.Native.Nat.{ℕ}
 use mathlib.Core.List.{List}
 use mathlib.Core.Path.{◌≡◌, sym, ap, ◌∙◌}
-use Rattle.sheet.specs.declared.Verdict.{Verdict}
+use Rattle.sheet.specs.Verdicts.{Verdict}
 use Rattle.sheet.specs.Answers.{Answer, answered, answer_of}
 use Rattle.reassignment.specs.Count.{count_answer}
 use Rattle.reassignment.specs.Reassign.{reassign_verdict, with_value, new_count, reassign_answer, written_if, reassign_grouping}

@@ -11,11 +11,10 @@ ghost use Rattle.counter.specs.Answers.{counting_answer};
 ghost use Rattle.reassign.specs.Weights.{weight_of, weight_all, weight_in, Reassignable};
 ghost use Rattle.reassign.specs.Promises.{StaysCounted, RightGoesThrough};
 
-use counter::Counting;
-use sheet::{Condition, Lot, Reading, Record, Term};
+use sheet::{Condition, Lot, Record, Refusal, Term};
 
 // How many of the conditions that name a lot are unmet before it gets another number, and how many after.
-#[derive(Clone, Copy)]
+#[derive(Clone, Copy, Debug, PartialEq, Eq)]
 pub struct Weight {
     before: u32,
     after: u32,
@@ -25,7 +24,7 @@ pub struct Weight {
 fn term_names(t: Term, lot: Lot) -> bool
     ensures { result ≡ term_names lot.0 (term_of t.sign t.a.0 t.b.0) }
 {
-    t.a.0 == lot.0 || t.b.0 == lot.0
+    t.a == lot || t.b == lot
 }
 
 // Whether the condition whose chain begins at a record names a lot. The loop ends at the first term that does.
@@ -70,10 +69,8 @@ fn weigh(sheet: &[u8], m: u16, before: &[u8], after: &[u8], lot: Lot) -> Weight
 {
     let mut was: u32 = 0;
     let mut is: u32 = 0;
-    let mut c: u16 = 0;
-    while c < m {
-        c += 1;
-        let head = sheet::format::head_at(sheet, Condition(c));
+    for c in 0..m {
+        let head = sheet::format::head_at(sheet, Condition(c + 1));
         let one = weigh_one(sheet, m, before, after, lot, head);
         was += one.before;
         is += one.after;
@@ -121,7 +118,7 @@ fn reassign_lot(
     count: u32,
     lot: Lot,
     value: u8,
-) -> Counting
+) -> Result<u32, Refusal>
     requires { Reassignable sheet.now grouping.old n m lot.0 }
     ensures answer { counting_answer result ≡ answer_of (check22 sheet.now grouping.old count lot.0)
         (answered (new_count sheet.now grouping.old count lot.0 value) 0 0) }
@@ -131,51 +128,32 @@ fn reassign_lot(
     let i = (lot.0 - 1) as usize;
     let weight = weigh_grouping(sheet, n, m, grouping, lot, value);
     if ill_count(m, weight.before, count) {
-        return Counting::Refused {
-            check: 22,
-            place: count,
-        };
+        return Err(Refusal::WrongCount(count));
     }
     grouping[i] = value;
-    Counting::Count(count - weight.before + weight.after)
+    Ok(count - weight.before + weight.after)
 }
 
 // A lot gets another number, for any bytes and numbers at all: the first check that fails, or the new count.
-pub fn reassign(sheet: &[u8], grouping: &mut [u8], count: u32, lot: u32, value: u8) -> Counting
+pub fn reassign(
+    sheet: &[u8],
+    grouping: &mut [u8],
+    count: u32,
+    lot: u32,
+    value: u8,
+) -> Result<u32, Refusal>
     ensures answer { counting_answer result ≡ reassign_answer sheet.now grouping.old count lot value }
     ensures grouping { grouping.new ≡ reassign_grouping sheet.now grouping.old count lot value }
     ensures counted { StaysCounted (counting_answer result) sheet.now grouping.old count grouping.new }
     ensures right { RightGoesThrough (counting_answer result) sheet.now grouping.old count lot value grouping.new }
 {
-    let reading = reader::read(sheet);
-    match reading {
-        Reading::Refused { check, place } => Counting::Refused { check, place },
-        Reading::Accepted {
-            lots,
-            conditions,
-            records: _,
-        } => {
-            if grouping.len() < (lots as usize) {
-                return Counting::Refused {
-                    check: 8,
-                    place: lots as u32,
-                };
-            }
-            if ill_lot(lots, lot) {
-                return Counting::Refused {
-                    check: 21,
-                    place: lot,
-                };
-            }
-            reassign_lot(
-                sheet,
-                lots,
-                conditions,
-                grouping,
-                count,
-                Lot(lot as u16),
-                value,
-            )
-        }
+    let h = reader::read(sheet)?;
+    if grouping.len() < h.lots as usize {
+        return Err(Refusal::ShortGrouping(h.lots));
     }
+    if ill_lot(h.lots, lot) {
+        return Err(Refusal::NoSuchLot(lot));
+    }
+    let lot = Lot(lot as u16);
+    reassign_lot(sheet, h.lots, h.conditions, grouping, count, lot, value)
 }

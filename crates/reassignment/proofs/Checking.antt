@@ -6,8 +6,7 @@ use mathlib.Core.Path.{◌≡◌, sym, ap, subst, ◌∙◌}
 use native.Mathlib.Omega.{arith}
 use borrow.Author.Tests.{ltb-false, le-ltb, ne_eqb}
 use lib.Dec.{ltb}
-use Rattle.sheet.specs.declared.Verdict.{Verdict}
-use Rattle.sheet.specs.declared.Verdict.TheVariants.{Passes, Refuses}
+use Rattle.sheet.specs.Verdicts.{Verdict, Passes, Refuses}
 use Rattle.sheet.specs.Format.{lot_count, condition_count}
 use Rattle.sheet.specs.Checks.{or_else, first_refusal, sheet_verdict}
 use Rattle.sheet.proofs.Verdicts.{or_else_end, or_else_assoc, or_else-passes, refuses_if-passes}

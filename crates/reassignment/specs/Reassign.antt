@@ -1,7 +1,6 @@
 -- A lot given another number (document 02, job 8; there: moving one lot): checks, answer and grouping afterwards, for any running count (there: the kept count).
 use Rattle.std.specs.Prelude.{ℕ, ◌+◌, ◌-◌, Bool, cond, ◌||◌, List, [], ◌∷◌, ◌++◌, ltb, eqb, set}
-use Rattle.sheet.specs.declared.Verdict.{Verdict}
-use Rattle.sheet.specs.declared.Verdict.TheVariants.{Passes, Refuses}
+use Rattle.sheet.specs.Verdicts.{Verdict, Passes, Refuses}
 use Rattle.sheet.specs.Format.{lot_count, condition_count}
 use Rattle.sheet.specs.Conditions.{Term, first_lot, second_lot, conditions}
 use Rattle.sheet.specs.Checks.{refuses_if, first_refusal, sheet_checks}

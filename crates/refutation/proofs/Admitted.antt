@@ -9,7 +9,7 @@ use lib.ListN.{length}
 use Rattle.sheet.specs.Format.{lowest_lot, lot_count}
 use Rattle.sheet.specs.Checks.{or_else, refuses_if, lot_in_range}
 use Rattle.sheet.specs.Conditions.{same}
-use Rattle.sheet.specs.declared.Verdict.{Verdict}
+use Rattle.sheet.specs.Verdicts.{Verdict}
 use Rattle.sheet.proofs.Accepted.{lot_in}
 use Rattle.limit.specs.Meaning.{Limit}
 use Rattle.store.specs.Records.{NodeRecord, split_record}

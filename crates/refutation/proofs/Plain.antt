@@ -2,7 +2,7 @@
 use Prim.Native.Nat.{ℕ}
 use mathlib.Core.List.{List, [], ◌∷◌, map}
 use mathlib.Core.Path.{◌≡◌, refl, ap, fun_ext}
-use Rattle.sheet.specs.declared.Verdict.{Verdict}
+use Rattle.sheet.specs.Verdicts.{Verdict}
 use Rattle.limit.specs.Meaning.{unlimited}
 use Rattle.store.specs.Records.{NodeRecord, split_record, ground_record, met_record, clique_record, no_record, records_of}
 use Rattle.refutation.specs.Refutation.{Split, Nearest, no_split, same_split, must_end, after_ground, nearest, walk_record, walk_from, walk_verdict}

@@ -7,8 +7,7 @@ use native.Mathlib.Omega.{arith}
 use borrow.Author.Tests.{leb-false, lt-leb, not-false}
 use lib.Dec.{eqb, leb}
 use lib.ListN.{length}
-use Rattle.sheet.specs.declared.Verdict.{Verdict}
-use Rattle.sheet.specs.declared.Verdict.TheVariants.{Passes}
+use Rattle.sheet.specs.Verdicts.{Verdict, Passes}
 use Rattle.sheet.specs.Format.{lowest_lot, lot_count}
 use Rattle.sheet.specs.Checks.{refuses_if, first_refusal, lot_in_range}
 use Rattle.sheet.specs.Conditions.{same}

@@ -5,7 +5,7 @@ use mathlib.Core.List.{List, [], ◌∷◌}
 use mathlib.Core.Path.{◌≡◌, ap, ◌∙◌}
 use native.Mathlib.Omega.{arith}
 use borrow.Author.Tests.{le-leb}
-use Rattle.sheet.specs.declared.Verdict.TheVariants.{Refuses}
+use Rattle.sheet.specs.Verdicts.{Refuses}
 use Rattle.sheet.specs.Format.{lowest_lot, condition_count, head_at}
 use Rattle.sheet.specs.Conditions.{condition_at}
 use Rattle.sheet.proofs.Conditions.{conditions_at, withdrawn-empty}

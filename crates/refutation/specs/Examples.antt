@@ -1,8 +1,7 @@
 -- What the walk says of lists over document 01's sheet A, by computation: each of checks 10 to 15, with its place; of two lists over A with a condition
 -- withdrawn; and of lists that name lot 0.
 use Rattle.std.specs.Prelude.{ℕ, zero, suc, List, [], ◌∷◌, ◌++◌, ◌≡◌, refl, take, set}
-use Rattle.sheet.specs.declared.Verdict.{Verdict}
-use Rattle.sheet.specs.declared.Verdict.TheVariants.{Passes, Refuses}
+use Rattle.sheet.specs.Verdicts.{Verdict, Passes, Refuses}
 use Rattle.buffers.specs.Bytes.{number, two_bytes}
 use Rattle.sheet.specs.Format.{lowest_lot, head_at, sign_at, spare_at, first_lot_at, second_lot_at, next_at, zero_bytes, vacant}
 use Rattle.sheet.specs.Checks.{first_refusal, lowest_refusal, check1, check2, check3, check4, well_formed, check5, member, walk_chain, walk_chains, walked, check17_and6, check7, sheet_checks_with}

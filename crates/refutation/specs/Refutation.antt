@@ -1,8 +1,7 @@
 -- The walk over a list of records from any hand (document 01, "Grounds from any hand", and checks 10 to 15 of its table), with a limit on the classes or
 -- without one (document 02, job 7).
 use Rattle.std.specs.Prelude.{ℕ, suc, ◌-◌, ◌/◌, ◌%◌, Bool, true, false, not, ◌&&◌, ◌||◌, List, [], ◌∷◌, ◌++◌, map, ◌≡◌, leb, ltb, eqb, length, get_or}
-use Rattle.sheet.specs.declared.Verdict.{Verdict}
-use Rattle.sheet.specs.declared.Verdict.TheVariants.{Passes, Refuses}
+use Rattle.sheet.specs.Verdicts.{Verdict, Passes, Refuses}
 use Rattle.sheet.specs.Format.{lowest_lot, lot_count, condition_count}
 use Rattle.sheet.specs.Conditions.{Term, same, apart, conditions}
 use Rattle.sheet.specs.Checks.{or_else, refuses_if, first_refusal, sheet_checks_with, lot_in_range}

@@ -6,7 +6,7 @@ use mathlib.Core.Logic.{◌↔◌}
 use mathlib.Core.Path.{◌≡◌, refl, sym, ap, fun_ext, ◌∙◌}
 use native.Mathlib.Omega.{arith}
 use lib.ListN.{length, get_or}
-use Rattle.sheet.specs.declared.Verdict.{Verdict}
+use Rattle.sheet.specs.Verdicts.{Verdict}
 use Rattle.sheet.specs.Format.{lowest_lot, condition_count, record_count, head_at, filled_count}
 use Rattle.sheet.specs.Checks.{first_refusal, sheet_checks}
 use Rattle.sheet.specs.Conditions.{Term, condition_at}

@@ -2,10 +2,11 @@
 use Prim.Native.Nat.{ℕ}
 use mathlib.Core.List.{List}
 use mathlib.Core.Path.{◌≡◌, sym, subst, ◌∙◌}
-use Rattle.sheet.specs.declared.Verdict.{Verdict}
+use Rattle.sheet.specs.Verdicts.{Verdict}
 use Rattle.sheet.specs.Checks.{Accepted}
 use Rattle.sheet.specs.Answers.{Answer, refused, answered}
-use Rattle.writer.specs.declared.WriteAnswer.{WriteAnswer}
+use Rattle.std.specs.Prelude.{Result}
+use Rattle.sheet.specs.declared.refusal.Refusal.{Refusal}
 use Rattle.writer.specs.Answers.{written_answer, output_after, OfWritten}
 use Rattle.repack.specs.Repack.{repacked, repack_verdict, repack_answer, repack_out}
 use Rattle.repack.specs.Promises.{Alike, ServedAlike}
@@ -18,7 +19,7 @@ module _ (s out : List ℕ) where
   of_written P packed (refused check place) e = tt
   of_written P packed (answered n second third) e = let f = fitted s out n second third e in subst P (sym f.first) (packed f.accepted)
 
-  abbrev pub Ensured : WriteAnswer → List ℕ → Type 0
+  abbrev pub Ensured : Result ℕ Refusal → List ℕ → Type 0
   Ensured r out' =
       record {
         answer : written_answer r ≡ repack_answer s out;
@@ -29,7 +30,7 @@ module _ (s out : List ℕ) where
       }
 
   -- The verdict decides.
-  pub ensured : (v : Verdict) → repack_verdict s out ≡ v → (r : WriteAnswer) (out' : List ℕ)
+  pub ensured : (v : Verdict) → repack_verdict s out ≡ v → (r : Result ℕ Refusal) (out' : List ℕ)
       → written_answer r ≡ answer_by s v → out' ≡ output_after (answer_by s v) (repacked s) out → Ensured r out'
   ensured v e r out' told left =
       let a = written_answer r in

@@ -1,6 +1,6 @@
 -- Repacked sheets (document 02, jobs 1 and 2).
 use Rattle.std.specs.Prelude.{ℕ, List, [], ◌∷◌, ◌++◌, ltb, length}
-use Rattle.sheet.specs.declared.Verdict.{Verdict}
+use Rattle.sheet.specs.Verdicts.{Verdict}
 use Rattle.sheet.specs.Format.{lowest_lot, lot_count}
 use Rattle.sheet.specs.Checks.{refuses_if, first_refusal, sheet_checks_with}
 use Rattle.sheet.specs.Conditions.{conditions}

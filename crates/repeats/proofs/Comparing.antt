@@ -21,9 +21,6 @@ pub record Comparing (s t : List ℕ) (head other p q : ℕ) : Type 0 where
   pub second : OnChain t q
   pub rest : equal_conditions (terms_from s head) (terms_from t other) ≡ equal_conditions (terms_from s p) (terms_from t q)
 
-pub comparing_start : (s t : List ℕ) (head other : ℕ) → OnChain s head → OnChain t other → Comparing s t head other head other
-comparing_start s t head other on on' = record { first = on; second = on'; rest = refl }
-
 module _ {s t : List ℕ} {head other p q : ℕ} (l : Comparing s t head other p q) (ok : Accepted s) (ok' : Accepted t) where
   -- The first chain is over: they are equal where the second is over too.
   pub first_over : p ≡ 0 → equal_conditions (terms_from s head) (terms_from t other) ≡ eqb q 0
@@ -46,7 +43,7 @@ module _ {s t : List ℕ} {head other p q : ℕ} (l : Comparing s t head other p
     step = l.rest ∙ rw (terms_step s ok p low l.first.within, terms_step t ok' q low' l.second.within)
 
     -- The two terms, by their fields: sign, first lot, second lot.
-    pub compared : equal_terms (term_at s p) (term_at t q) ≡ equal_fields (term_record_at s p) (term_record_at t q)
+    compared : equal_terms (term_at s p) (term_at t q) ≡ equal_fields (term_record_at s p) (term_record_at t q)
     unfolding equal_terms
     compared =
         let mine = fields_of (sign_at s p) (first_lot_at s p) (second_lot_at s p) (on_sound s ok p low l.first).sign in
@@ -54,9 +51,9 @@ module _ {s t : List ℕ} {head other p q : ℕ} (l : Comparing s t head other p
         rw (mine.sign', mine.first, mine.second, other.sign', other.first, other.second)
 
     -- They differ, and so do the conditions;
-    pub terms_differ : equal_terms (term_at s p) (term_at t q) ≡ false → equal_conditions (terms_from s head) (terms_from t other) ≡ false
-    terms_differ e = step ∙ rw e
+    pub terms_differ : equal_fields (term_record_at s p) (term_record_at t q) ≡ false → equal_conditions (terms_from s head) (terms_from t other) ≡ false
+    terms_differ e = step ∙ rw (compared ∙ e)
 
     -- or they are equal, and the loop goes on.
-    pub comparing_next : equal_terms (term_at s p) (term_at t q) ≡ true → Comparing s t head other (next_at s p) (next_at t q)
-    comparing_next e = record { first = next-on s ok p low l.first; second = next-on t ok' q low' l.second; rest = step ∙ rw e }
+    pub comparing_next : equal_fields (term_record_at s p) (term_record_at t q) ≡ true → Comparing s t head other (next_at s p) (next_at t q)
+    comparing_next e = record { first = next-on s ok p low l.first; second = next-on t ok' q low' l.second; rest = step ∙ rw (compared ∙ e) }

@@ -1,32 +1,33 @@
--- Entries between two places: the next one, and none that is left.
-use Prim.Native.Nat.{ℕ, suc, ◌≤◌, ◌<◌}
-use mathlib.Core.List.{List, [], ◌∷◌}
-use mathlib.Core.Path.{◌≡◌, sym, subst}
+-- Entries of a sheet: where the chain of one begins, those of a slice that is lent, and that they stay.
+use Prim.Native.Nat.{ℕ, ◌+◌, ◌-◌, ◌*◌, ◌≤◌}
+use mathlib.Core.List.{List}
+use mathlib.Core.Path.{◌≡◌, sym, ap, subst, ◌∙◌}
 use native.Mathlib.Omega.{arith}
-use lib.ListN.{length, get_or, take, drop}
-use lib.Seq.{slice, slice-cons, slice_empty}
+use lib.ListN.{length, take, drop}
+use lib.Seq.{slice}
+use Rattle.std.proofs.lemmas.List.{drop-take}
 use Rattle.buffers.specs.Lists.{All}
-use Rattle.repeats.specs.Inner.{EntryOf, EntriesOf}
+use Rattle.sheet.specs.Format.{head_at}
+use Rattle.sheet.specs.Inner.{HasConditions, OnChain}
+use Rattle.sheet.proofs.Accepted.{sound}
+use Rattle.sheet.proofs.ChainEnds.{head-on}
+use Rattle.repeats.specs.Inner.{EntryOf, EntriesOf, number_in}
 
-module _ {s : List ℕ} {i upto : ℕ} {entries : List ℕ} (l : EntriesOf s i upto entries) where
-  module _ (more : i < upto) where
-    pub entries_step : slice i upto entries ≡ get_or entries i 0 ∷ slice (suc i) upto entries
-    entries_step = slice-cons i upto entries 0 more l.room
+module _ {s : List ℕ} {m entry : ℕ} (can : HasConditions s m) (one : EntryOf s entry) where
+  -- The head of an entry's condition stands in the sheet,
+  pub has_head : 6 + 2 * number_in entry ≤ length s
+  has_head = omega (arith, one.high, (sound s can.accepted).header.whole)
 
-    both : All (EntryOf s) (get_or entries i 0 ∷ slice (suc i) upto entries)
-    both = subst (All (EntryOf s)) entries_step l.each
+  -- and its chain is one of the sheet's.
+  pub head_on_chain : (r : ℕ) → r ≡ head_at s (number_in entry) → OnChain s r
+  head_on_chain r head = subst (OnChain s) (sym head) (head-on s can.accepted _ one.low one.high)
 
-    pub entry_here : EntryOf s (get_or entries i 0)
-    entry_here = both.0
+module _ {s : List ℕ} {from upto : ℕ} {entries : List ℕ} (l : EntriesOf s from upto entries) where
+  -- A slice of the array has the entries between its ends.
+  pub lent : take (upto - from) (drop from entries) ≡ slice from upto entries
+  lent =
+      let whole : from + (upto - from) ≡ upto = omega (arith, l.order) in
+      sym (drop-take from (upto - from) entries) ∙ ap (λ (end : ℕ). drop from (take end entries)) whole
 
-    pub entries_next : EntriesOf s (suc i) upto entries
-    entries_next = record { order = more; room = l.room; each = both.1 }
-
-  -- They are still there where these places are as they were.
-  pub entries_still : {after : List ℕ} → take upto after ≡ take upto entries → upto ≤ length after → EntriesOf s i upto after
-  entries_still same room = record { order = l.order; room = room; each = subst (λ (es : List ℕ). All (EntryOf s) (drop i es)) (sym same) l.each }
-
-  pub entries_end : upto ≤ i → slice i upto entries ≡ []
-  entries_end past =
-      let same : i ≡ upto = omega (arith, l.order) in
-      subst (λ (j : ℕ). slice j upto entries ≡ []) (sym same) (slice_empty upto entries)
+  pub each_lent : All (EntryOf s) (take (upto - from) (drop from entries))
+  each_lent = subst (All (EntryOf s)) (sym lent) l.each

@@ -4,7 +4,7 @@ pub mod Result
 mod Fields
 mod Comparing
 mod Digesting
-mod Entries
+pub mod Entries
 mod Seeking
 mod Staying
 mod Gathering

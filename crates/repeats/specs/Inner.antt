@@ -74,13 +74,13 @@ pub record EntriesOf (s : List ℕ) (from upto : ℕ) (entries : List ℕ) : Typ
   pub room : upto ≤ length entries
   pub each : All (EntryOf s) (slice from upto entries)
 
--- From `from` on, behind the entries of s, there are those of t's conditions that stay.
-pub record Gathered (s : List ℕ) (from : ℕ) (t entries entries' : List ℕ) (r : Kept) : Type 0 where
-  pub before : take from entries' ≡ take from entries
-  pub entered : EntriesOf t from r.upto entries'
-  pub few : r.upto ≤ from + condition_count t
-  pub stay : kept_of t (slice from r.upto entries') ≡ without_repeats has_terms (kept_of s (slice 0 from entries)) (conditions t)
-  pub terms : r.terms ≡ length (flatten (kept_of t (slice from r.upto entries')))
+-- Behind these entries of s, there are those of t's conditions that stay.
+pub record Gathered (s mine t others : List ℕ) (r : Kept) : Type 0 where
+  pub room : r.upto ≤ length others
+  pub entered : All (EntryOf t) (take r.upto others)
+  pub few : r.upto ≤ condition_count t
+  pub stay : kept_of t (take r.upto others) ≡ without_repeats has_terms (kept_of s mine) (conditions t)
+  pub terms : r.terms ≡ length (flatten (kept_of t (take r.upto others)))
   pub short : r.terms ≤ length (flatten (conditions t))
 
 -- There are the entries of s and then those of t, and together they have the conditions of the result.

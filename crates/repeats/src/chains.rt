@@ -60,13 +60,7 @@ pub fn condition_at(sheet: &[u8], m: u16, c: Condition) -> Sought
 fn equal_terms(t: Term, u: Term) -> bool
     ensures { result ≡ equal_fields t u }
 {
-    if t.sign != u.sign {
-        return false;
-    }
-    if t.a.0 != u.a.0 {
-        return false;
-    }
-    t.b.0 == u.b.0
+    t.sign == u.sign && t.a.0 == u.a.0 && t.b.0 == u.b.0
 }
 
 // Whether two chains, of two sheets with so many conditions each, have the same terms in the same order, each from a record on.

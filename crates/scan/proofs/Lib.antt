@@ -1,3 +1,4 @@
 mod Scanning
 pub mod Settling
 mod Resuming
+mod Conditions

@@ -1,12 +1,12 @@
 // Which condition a node takes, and where its terms are looked at: the conditions are scanned, and those that are settled for good are noted.
 #![tactic(auto)]
 
-ghost use Rattle.std.specs.Prelude.{◌≡◌, cond, ℕ, ◌-◌, ◌≤◌, eqb, length, set};
+ghost use Rattle.std.specs.Prelude.{◌≡◌, ℕ};
 ghost use Rattle.equality.specs.Node.{Decisions, classes};
 ghost use Rattle.limit.specs.Meaning.{Limit};
 ghost use Rattle.sheet.specs.Inner.{HasConditions};
 ghost use Rattle.scan.specs.Settled.{Settled, Later, ClearedAbove};
-ghost use Rattle.scan.specs.Place.{Resumes, Stands, PlaceWithin};
+ghost use Rattle.scan.specs.Place.{Resumes, Stands, PlaceWithin, HasLevel, with_level};
 
 use classes::Classes;
 use sheet::{Condition, Lot, Record, SAME};
@@ -26,7 +26,8 @@ pub enum Place {
 // it: some "same" term's lots share a class, or some "apart" term's do not (`taken_by_classes`), or it has no term. Where a "same" term's do, the condition is
 // settled: it is met under every further decision, so the level of the path is noted for it, and a condition that has a level is not read. The map's array is
 // read in place: a method that hands the map back would copy it for each term. Records of a chain mostly follow each other in the sheet. Within such a run the
-// next record is known before its number is read: the loop over a run need not wait for it.
+// next record is known before its number is read: the loop over a run need not wait for it. The outer loop is no `for`: it yields a place by break, as
+// docs/PROMISES.md has it. A level is a number, with 0 for none, and no Option: `Settled`, `Later` and `ClearedAbove` speak of numbers.
 pub fn scan(sheet: &[u8], m: u16, map: Classes, levels: &mut [u16], level: u16) -> Place
     requires { HasConditions sheet.now m × Settled map.lots sheet.now levels.old level }
     ensures stands { (limit : Limit) (lots : ℕ) (ds : Decisions) → map.lots ≡ classes ds → Stands limit lots sheet.now result ds }
@@ -76,12 +77,12 @@ pub fn scan(sheet: &[u8], m: u16, map: Classes, levels: &mut [u16], level: u16) 
     }
 }
 
-// Notes that a condition is settled at a level. Condition 0 is none.
-pub fn settle(levels: &mut [u16], c: Condition, level: u16)
-    requires { c.0 ≤ length levels.old }
-    ensures { levels.new ≡ cond (eqb c.0 0) levels.old (set levels.old (c.0 - 1) level) }
+// Notes that the condition that a place is within is settled at a level. Nothing is noted for a place that is within none.
+pub fn settle(levels: &mut [u16], place: Place, level: u16)
+    requires { HasLevel place levels.old }
+    ensures { levels.new ≡ with_level place level levels.old }
 {
-    if c.0 != 0 {
+    if let Place::Within(c, _) = place {
         levels[(c.0 - 1) as usize] = level;
     }
 }
@@ -90,11 +91,8 @@ pub fn settle(levels: &mut [u16], c: Condition, level: u16)
 pub fn clear_above(levels: &mut [u16], level: u16)
     ensures { ClearedAbove levels.old levels.new level }
 {
-    let mut i: usize = 0;
-    while i < levels.len() {
-        let old = levels[i];
-        levels[i] = if level < old { 0 } else { old };
-        i += 1;
+    for noted in levels.iter_mut() {
+        *noted = if level < *noted { 0 } else { *noted };
     }
 }
 

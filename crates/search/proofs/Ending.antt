@@ -8,7 +8,7 @@ use native.Mathlib.Omega.{arith}
 use borrow.Author.Tests.{lt-ltb, le-ltb}
 use lib.ListN.{length, take, drop, replicate, take-append-drop, length-replicate}
 use lib.Seq.{sets, sets-eq, length-take-le}
-use Rattle.sheet.specs.declared.Verdict.TheVariants.{Passes}
+use Rattle.sheet.specs.Verdicts.{Passes}
 use Rattle.sheet.specs.Format.{most_lots}
 use Rattle.equality.specs.Search.{Tree, is_met, node_count, met_decisions, grouping_bytes}
 use Rattle.outcome.specs.Nodes.{records}
@@ -17,7 +17,10 @@ use Rattle.outcome.specs.Outcome.{full_result, met_or_cannot, result_of}
 use Rattle.buffers.specs.Written.{written}
 use Rattle.outcome.proofs.Fitting.{bytes_count}
 use Rattle.outcome.proofs.Grouping.{grouping-length}
-use Rattle.search.specs.declared.SearchAnswer.TheVariants as answers
+use Rattle.std.specs.Prelude.{Ok, Err}
+use Rattle.sheet.specs.declared.refusal.Refusal.TheVariants.{FullStore}
+use Rattle.sheet.specs.Answers.{answered}
+use Rattle.search.specs.declared.Found.TheVariants as found
 use Rattle.visit.specs.declared.Visited.{Visited}
 use Rattle.visit.specs.declared.Visited.TheVariants.{Met, Cannot, Full}
 use Rattle.visit.specs.Visited.{end_of, Explored}
@@ -79,7 +82,7 @@ module _ (n : ℕ) (grouping grouping' store store' : List ℕ) (r : Visited) (t
 
   -- Met, with the count of records;
   pub ends-met : (count : ℕ) → r ≡ Met count
-      → EndsAs n (result_of Passes (capacity store) tree) grouping (grouping' ++ drop n grouping) store (store' ++ drop (record_length * capacity store) store) (answers.Met count)
+      → EndsAs n (result_of Passes (capacity store) tree) grouping (grouping' ++ drop n grouping) store (store' ++ drop (record_length * capacity store) store) (Ok (found.Met count))
   ends-met count q = go (end_of (capacity store) 0 tree) (ending ∙ q) (ended (capacity store) 0 tree)
     where
       grouped : grouping' ++ drop n grouping ≡ written (grouping_bytes n (met_decisions tree)) grouping
@@ -90,30 +93,30 @@ module _ (n : ℕ) (grouping grouping' store store' : List ℕ) (r : Visited) (t
           ∙ ap (λ (k : ℕ). bytes ++ drop k grouping) (sym (grouping-length n (met_decisions tree) lots))
 
       go : (o : Visited) → o ≡ Met count → Ended (capacity store) 0 tree o
-          → EndsAs n (result_of Passes (capacity store) tree) grouping (grouping' ++ drop n grouping) store (store' ++ drop (record_length * capacity store) store) (answers.Met count)
+          → EndsAs n (result_of Passes (capacity store) tree) grouping (grouping' ++ drop n grouping) store (store' ++ drop (record_length * capacity store) store) (Ok (found.Met count))
       go o p (ended-met fits m) =
           let number : count ≡ node_count tree = let k : 0 + node_count tree ≡ count = cc in omega arith in
-          rw (result_made (capacity store) tree true (omega arith) m) (record { answered = ap answers.Met number; grouped = grouped; stored = records-stored (omega arith) })
+          rw (result_made (capacity store) tree true (omega arith) m) (record { answered = ap (λ (k : ℕ). Ok (found.Met k)) number; numbered = ap (λ (k : ℕ). answered 1 k 0) number; grouped = grouped; stored = records-stored (omega arith) })
       go o p (ended_cannot fits m) = let z : ◌≡◌ {A = ℕ} 0 1 = cc in absurd (omega arith)
       go o p (ended_full over) = let z : ◌≡◌ {A = ℕ} 0 1 = cc in absurd (omega arith)
 
   -- cannot, with the count of records;
   pub ends_cannot : (count : ℕ) → r ≡ Cannot count
-      → EndsAs n (result_of Passes (capacity store) tree) grouping (grouping' ++ drop n grouping) store (store' ++ drop (record_length * capacity store) store) (answers.Cannot count)
+      → EndsAs n (result_of Passes (capacity store) tree) grouping (grouping' ++ drop n grouping) store (store' ++ drop (record_length * capacity store) store) (Ok (found.Cannot count))
   ends_cannot count q = go (end_of (capacity store) 0 tree) (ending ∙ q) (ended (capacity store) 0 tree)
     where
       go : (o : Visited) → o ≡ Cannot count → Ended (capacity store) 0 tree o
-          → EndsAs n (result_of Passes (capacity store) tree) grouping (grouping' ++ drop n grouping) store (store' ++ drop (record_length * capacity store) store) (answers.Cannot count)
+          → EndsAs n (result_of Passes (capacity store) tree) grouping (grouping' ++ drop n grouping) store (store' ++ drop (record_length * capacity store) store) (Ok (found.Cannot count))
       go o p (ended-met fits m) = let z : ◌≡◌ {A = ℕ} 0 1 = cc in absurd (omega arith)
       go o p (ended_cannot fits m) =
           let number : count ≡ node_count tree = let k : 0 + node_count tree ≡ count = cc in omega arith in
-          rw (result_made (capacity store) tree false (omega arith) m) (record { answered = ap answers.Cannot number; grouped = unwritten (rw q at e.grouped); stored = records-stored (omega arith) })
+          rw (result_made (capacity store) tree false (omega arith) m) (record { answered = ap (λ (k : ℕ). Ok (found.Cannot k)) number; numbered = ap (λ (k : ℕ). answered 2 k 0) number; grouped = unwritten (rw q at e.grouped); stored = records-stored (omega arith) })
       go o p (ended_full over) = let z : ◌≡◌ {A = ℕ} 0 1 = cc in absurd (omega arith)
 
   -- or full, where the whole records are zeroed afterwards.
   pub ends_full : r ≡ Full → (store'' : List ℕ) → length store' ≡ record_length * capacity store
       → store'' ≡ replicate (record_length * capacity store) 0 ++ drop (record_length * capacity store) (store' ++ drop (record_length * capacity store) store)
-      → EndsAs n (result_of Passes (capacity store) tree) grouping (grouping' ++ drop n grouping) store store'' (answers.Full (capacity store))
+      → EndsAs n (result_of Passes (capacity store) tree) grouping (grouping' ++ drop n grouping) store store'' (Err (FullStore (capacity store)))
   ends_full q store'' len zeroed = go (end_of (capacity store) 0 tree) (ending ∙ q) (ended (capacity store) 0 tree)
     where
       stored : store'' ≡ written (replicate (record_length * capacity store) 0) store
@@ -125,7 +128,7 @@ module _ (n : ℕ) (grouping grouping' store store' : List ℕ) (r : Visited) (t
           ∙ ap (λ (k : ℕ). zeros ++ drop k store) (sym (length-replicate (record_length * capacity store) 0))
 
       go : (o : Visited) → o ≡ Full → Ended (capacity store) 0 tree o
-          → EndsAs n (result_of Passes (capacity store) tree) grouping (grouping' ++ drop n grouping) store store'' (answers.Full (capacity store))
+          → EndsAs n (result_of Passes (capacity store) tree) grouping (grouping' ++ drop n grouping) store store'' (Err (FullStore (capacity store)))
       go o p (ended-met fits m) = let z : ◌≡◌ {A = ℕ} 0 1 = cc in absurd (omega arith)
       go o p (ended_cannot fits m) = let z : ◌≡◌ {A = ℕ} 0 1 = cc in absurd (omega arith)
-      go o p (ended_full over) = rw (result_full (capacity store) tree (omega arith)) (record { answered = refl; grouped = unwritten (rw q at e.grouped); stored = stored })
+      go o p (ended_full over) = rw (result_full (capacity store) tree (omega arith)) (record { answered = refl; numbered = refl; grouped = unwritten (rw q at e.grouped); stored = stored })

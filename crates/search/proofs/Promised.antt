@@ -10,8 +10,7 @@ use borrow.Author.Tests.{ltb-true, ltb-false, lt-ltb, le-ltb}
 use lib.Dec.{ltb}
 use lib.ListN.{length, drop}
 use lib.Seq.{take_at}
-use Rattle.sheet.specs.declared.Verdict.{Verdict}
-use Rattle.sheet.specs.declared.Verdict.TheVariants.{Passes, Refuses}
+use Rattle.sheet.specs.Verdicts.{Verdict, Passes, Refuses}
 use Rattle.sheet.specs.Format.{lowest_lot, lot_count}
 use Rattle.sheet.specs.Checks.{or_else}
 use Rattle.sheet.specs.Conditions.{conditions}
@@ -34,10 +33,8 @@ use Rattle.outcome.proofs.Fitting.{bytes_count}
 use Rattle.outcome.proofs.Grouping as left
 use Rattle.refutation.specs.Refutation.{RefutesUnder, list_verdict_under, check_answer_under}
 use Rattle.outcome.proofs.Own.{own_grounds_pass}
-use Rattle.search.specs.declared.SearchAnswer.{SearchAnswer}
-use Rattle.search.specs.Answers.{search_answer}
-use Rattle.search.specs.Promises.{answer_case, FullPlace, CountBounded}
-use Rattle.search.specs.Limited.{case_under, RefusedExactlyUnder, FullExactlyUnder, MetExactlyUnder, MetGroupingUnder, MetZeroUnder, CannotExactlyUnder, CannotWhicheverUnder, CannotAnyUnder, CannotRefutesUnder}
+use Rattle.search.specs.Promises.{FullPlace, CountBounded}
+use Rattle.search.specs.Limited.{RefusedExactlyUnder, FullExactlyUnder, MetExactlyUnder, MetGroupingUnder, MetZeroUnder, CannotExactlyUnder, CannotWhicheverUnder, CannotAnyUnder, CannotRefutesUnder}
 
 -- The four results, each with what is known where it is the search's.
 data Ends (limit : Limit) (s grouping store : List ℕ) : Result → Type 0 where
@@ -76,18 +73,6 @@ answer_passing limit s list e = go (list_verdict_under limit lowest_lot s list) 
     go : (v : Verdict) → answer_of v (answered 0 0 0) ≡ answered 0 0 0 → v ≡ Passes
     go Passes e = refl
     go (Refuses check place) e = let z : ◌≡◌ {A = ℕ} 0 1 = cc in absurd (omega arith)
-
--- A result's case has the result's number and values.
-case_answer : (result : Result) → search_answer (answer_case result) ≡ result_answer result
-case_answer (refused_result check place) = refl
-case_answer (full_result capacity) = refl
-case_answer (met_result tree) = refl
-case_answer (cannot_result tree) = refl
-
--- The case gives document 01's number and values.
-pub answer_of_lem : (limit : Limit) (s grouping store : List ℕ) (r : SearchAnswer) → r ≡ case_under limit s grouping store → search_answer r ≡ (outcome_under limit s grouping store).answer
-unfolding case_under outcome_under
-answer_of_lem limit s grouping store r e = ap search_answer e ∙ case_answer (result_of (verdict_under limit s grouping) (capacity store) (tree_of limit s))
 
 -- A refusal is no answer with values.
 refused-answered : {check place first second third : ℕ} → refused check place ≡ answered first second third → ⊥

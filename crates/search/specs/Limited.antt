@@ -1,6 +1,6 @@
 -- What the search under a limit promises beside its equations (document 02, job 7): as the search without one, of the assignments that keep the limit.
 use Rattle.std.specs.Prelude.{ℕ, ◌*◌, ◌<◌, List, ◌↔◌, ◌≡◌, take}
-use Rattle.sheet.specs.declared.Verdict.TheVariants.{Passes, Refuses}
+use Rattle.sheet.specs.Verdicts.{Passes, Refuses}
 use Rattle.sheet.specs.Format.{lowest_lot, lot_count}
 use Rattle.sheet.specs.Answers.{Answer, refused, answered}
 use Rattle.equality.specs.Meaning.{Meets}
@@ -10,17 +10,17 @@ use Rattle.store.specs.Records.{record_length, capacity}
 use Rattle.outcome.specs.Outcome.{Outcome, result_of}
 use Rattle.outcome.specs.Limited.{tree_of, verdict_under, search_verdict_under, outcome_under, GroupingMeetsUnder, ZeroGroupUnder}
 use Rattle.refutation.specs.Refutation.{check_answer_under}
-use Rattle.search.specs.declared.SearchAnswer.{SearchAnswer}
+use Rattle.search.specs.Answers.{Searched}
 use Rattle.search.specs.Promises.{answer_case}
 
 -- ---- the case and the outcome
 
 -- With a limit or without one: from a sheet's bytes and the two buffers as lent.
-unfoldable pub case_under : Limit → List ℕ → List ℕ → List ℕ → SearchAnswer
+unfoldable pub case_under : Limit → List ℕ → List ℕ → List ℕ → Searched
 case_under limit s grouping store = answer_case (result_of (verdict_under limit s grouping) (capacity store) (tree_of limit s))
 
 -- With one, whatever number it is.
-abbrev pub limited_case : List ℕ → ℕ → List ℕ → List ℕ → SearchAnswer
+abbrev pub limited_case : List ℕ → ℕ → List ℕ → List ℕ → Searched
 limited_case s limit grouping store = case_under (up_to limit) s grouping store
 
 abbrev pub limited_outcome : List ℕ → ℕ → List ℕ → List ℕ → Outcome

@@ -1,7 +1,9 @@
 -- What the search promises beside document 01's equations: when each of its cases is answered, and what the case means for the sheet, the
 -- grouping and the store.
-use Rattle.std.specs.Prelude.{ℕ, ◌+◌, ◌*◌, ◌<◌, List, ◌↔◌, ◌≡◌, take}
-use Rattle.sheet.specs.declared.Verdict.TheVariants.{Passes, Refuses}
+use Rattle.std.specs.Prelude.{ℕ, ◌+◌, ◌*◌, ◌<◌, List, ◌↔◌, ◌≡◌, take, Ok, Err}
+use Rattle.sheet.specs.declared.refusal.Refusal.TheVariants.{FullStore}
+use Rattle.sheet.specs.Refusals.{refusal_at}
+use Rattle.sheet.specs.Verdicts.{Passes, Refuses}
 use Rattle.sheet.specs.Conditions.{conditions}
 use Rattle.sheet.specs.Answers.{Answer, refused, answered}
 use Rattle.equality.specs.Meaning.{Meets, CanBeMet, CannotBeMet}
@@ -10,20 +12,20 @@ use Rattle.equality.specs.Evaluator.{grouping_verdict, GroupingMeets}
 use Rattle.store.specs.Records.{record_length, capacity}
 use Rattle.outcome.specs.Outcome.{Result, refused_result, full_result, met_result, cannot_result, result_of, search_verdict, ZeroGroup}
 use Rattle.refutation.specs.Refutation.{check_answer}
-use Rattle.search.specs.declared.SearchAnswer.{SearchAnswer}
-use Rattle.search.specs.declared.SearchAnswer.TheVariants.{Met, Cannot, Full, Refused}
+use Rattle.search.specs.declared.Found.TheVariants.{Met, Cannot}
+use Rattle.search.specs.Answers.{Searched}
 
 -- ---- the case
 
--- The case of a result. By document 01's numbers alone `Full S` and `Refused 9 S` would be one answer; the case tells them apart.
-abbrev pub answer_case : Result → SearchAnswer
-answer_case (refused_result check place) = Refused check place
-answer_case (full_result capacity) = Full capacity
-answer_case (met_result tree) = Met (node_count tree)
-answer_case (cannot_result tree) = Cannot (node_count tree)
+-- The case of a result.
+abbrev pub answer_case : Result → Searched
+answer_case (refused_result check place) = Err (refusal_at check place)
+answer_case (full_result capacity) = Err (FullStore capacity)
+answer_case (met_result tree) = Ok (Met (node_count tree))
+answer_case (cannot_result tree) = Ok (Cannot (node_count tree))
 
 -- The search's case, from a sheet's bytes and the two buffers as lent.
-unfoldable pub search_case : List ℕ → List ℕ → List ℕ → SearchAnswer
+unfoldable pub search_case : List ℕ → List ℕ → List ℕ → Searched
 search_case s grouping store = answer_case (result_of (grouping_verdict s grouping) (capacity store) (search_tree (conditions s)))
 
 -- ---- what is promised of the answer, in document 01's numbers

@@ -3,12 +3,21 @@
 #![tactic(auto)]
 
 pub mod partitions; // partitions.rt: the second solver
+mod sheet; // sheet.rt: a sheet's bytes, as both read them
 pub mod table; // table.rt: checks 1 to 8 and 17, a second time
 
-// An answer as numbers: 1 met and the count; 2 cannot and the count; 3 refused, check and place; 4 a full store.
-#[derive(Clone, Copy)]
-pub struct Answer {
-    pub kind: u8,
-    pub first: u32,
-    pub second: u32,
+// What a search comes to that refuses nothing.
+#[derive(Clone, Copy, Debug, PartialEq, Eq)]
+pub enum Answer {
+    Met { count: u32 },
+    Cannot { count: u32 },
+    Full { capacity: u32 },
+}
+
+// A check that refuses, and the place that it gives. Checks are numbers here, as the table's lines state them; the services' own type for them isn't
+// shared.
+#[derive(Clone, Copy, Debug, PartialEq, Eq)]
+pub struct Refusal {
+    pub check: u32,
+    pub place: u32,
 }

@@ -9,7 +9,7 @@ use lib.Dec.{leb}
 use lib.ListN.{length}
 use borrow.Author.Tests.{eqb-true, leb-true, le-leb, ltb-false, not-false}
 use Rattle.sheet.specs.declared.Header.{Header}
-use Rattle.sheet.specs.declared.Verdict.TheVariants.{Passes}
+use Rattle.sheet.specs.Verdicts.{Passes}
 use Rattle.sheet.specs.Format.{lowest_lot, header_length, lot_count, condition_count, record_count, head_at, same_sign, apart_sign, sign_at, spare_at, first_lot_at, second_lot_at, next_at, vacant}
 use Rattle.sheet.specs.Checks.{or_else, first_refusal, check2, check3, check4, check5, check17_and6, check7, lot_in_range, well_formed, Walk, reached, twice, into_vacant, member, walked, chains_verdict, reached_by, header_checks, sheet_checks_with, sheet_verdict, sheet_verdict_with, Accepted}
 use Rattle.sheet.specs.Conditions.{InLots}

@@ -7,7 +7,7 @@ use mathlib.Core.Path.{◌≡◌, refl, ap}
 use native.Mathlib.Omega.{arith}
 use lib.Dec.{eqb}
 use borrow.Author.Tests.{le-ltb, le-leb, eq-eqb}
-use Rattle.sheet.specs.declared.Verdict.TheVariants.{Passes}
+use Rattle.sheet.specs.Verdicts.{Passes}
 use Rattle.sheet.specs.Format.{lowest_lot, same_sign, apart_sign, vacant}
 use Rattle.sheet.specs.Checks.{check1, check2, check3, check4, check5, check17_and6, check7, first_refusal, well_formed, sheet_checks_with, sheet_verdict_with, Accepted}
 use Rattle.sheet.proofs.Verdicts.{passes-or_else, passes-refuses_if, passes_lowest}

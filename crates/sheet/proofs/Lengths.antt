@@ -5,8 +5,7 @@ use mathlib.Core.Path.{◌≡◌, sym, ap, subst, ◌∙◌}
 use borrow.Author.Tests.{lt-ltb, le-ltb}
 use lib.Dec.{ltb}
 use lib.ListN.{length}
-use Rattle.sheet.specs.declared.Verdict.{Verdict}
-use Rattle.sheet.specs.declared.Verdict.TheVariants.{Passes, Refuses}
+use Rattle.sheet.specs.Verdicts.{Verdict, Passes, Refuses}
 use Rattle.sheet.specs.Checks.{Accepted, or_else, first_refusal, refuses_if, sheet_checks, sheet_verdict}
 use Rattle.sheet.proofs.Further.{further, further_accepted}
 use Rattle.sheet.proofs.Numbered.{Number, Numbered, either, test, sheet_numbered}

@@ -1,4 +1,5 @@
 pub mod Verdicts
+pub mod Refusals
 pub mod Further
 pub mod Numbered
 pub mod Lengths

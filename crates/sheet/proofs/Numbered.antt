@@ -7,8 +7,7 @@ use mathlib.Core.Path.{◌≡◌}
 use native.Mathlib.Omega.{arith}
 use lib.Dec.{ltb, eqb}
 use lib.ListN.{length}
-use Rattle.sheet.specs.declared.Verdict.{Verdict}
-use Rattle.sheet.specs.declared.Verdict.TheVariants.{Passes, Refuses}
+use Rattle.sheet.specs.Verdicts.{Verdict, Passes, Refuses}
 use Rattle.sheet.specs.Format.{lowest_lot, most_lots, most_conditions, most_records, header_length, lot_count, condition_count, record_count, sheet_length, head_at, vacant}
 use Rattle.sheet.specs.Checks.{well_formed, member, reached_by, or_else, first_refusal, refuses_if, lowest_refusal, check1, check2, check3, check4, check5, check17_and6, check7, Walk, reached, twice, into_vacant, chains_verdict, walked, sheet_checks_with, sheet_verdict, sheet_verdict_with}
 

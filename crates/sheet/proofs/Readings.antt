@@ -3,12 +3,10 @@ use Prim.Native.Nat.{ℕ}
 use mathlib.Core.List.{List}
 use mathlib.Core.Path.{◌≡◌, refl, ◌∙◌}
 use native.Mathlib.Omega.{arith}
-use Rattle.sheet.specs.declared.Verdict.{Verdict}
-use Rattle.sheet.specs.declared.Verdict.TheVariants.{Passes, Refuses}
-use Rattle.sheet.specs.declared.Reading.{Reading}
+use Rattle.sheet.specs.Verdicts.{Verdict, Passes, Refuses}
 use Rattle.sheet.specs.Format.{lot_count, condition_count, record_count}
 use Rattle.sheet.specs.Checks.{sheet_verdict, Accepted}
-use Rattle.sheet.specs.Answers.{refused, answered, answer_of, read_answer, read_answer_with, reading_answer}
+use Rattle.sheet.specs.Answers.{refused, answered, answer_of, read_answer, read_answer_with}
 
 -- The sheet is accepted, with these counts.
 pub record ReadAs (s : List ℕ) (n m k : ℕ) : Type 0 where
@@ -19,7 +17,7 @@ pub record ReadAs (s : List ℕ) (n m k : ℕ) : Type 0 where
 
 module _ (s : List ℕ) where
   -- A reading that accepts says that the sheet is accepted, and gives its counts;
-  pub read_accepts : (n m k : ℕ) → reading_answer (Reading.Accepted n m k) ≡ read_answer s → ReadAs s n m k
+  pub read_accepts : (n m k : ℕ) → answered n m k ≡ read_answer s → ReadAs s n m k
   unfolding read_answer_with
   read_accepts n m k e = go (sheet_verdict s) refl e
     where
@@ -28,7 +26,7 @@ module _ (s : List ℕ) where
       go (Refuses check place) q e = let z : ◌≡◌ {A = ℕ} 0 1 = cc in absurd (omega arith)
 
   -- one that refuses gives the first check that fails.
-  pub read_refuses : (check place : ℕ) → reading_answer (Reading.Refused check place) ≡ read_answer s → sheet_verdict s ≡ Refuses check place
+  pub read_refuses : (check place : ℕ) → refused check place ≡ read_answer s → sheet_verdict s ≡ Refuses check place
   unfolding read_answer_with
   read_refuses check place e = go (sheet_verdict s) refl e
     where

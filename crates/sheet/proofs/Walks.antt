@@ -8,7 +8,7 @@ use native.Mathlib.Omega.{arith}
 use lib.Dec.{eqb}
 use lib.ListN.{length}
 use borrow.Author.Tests.{eq-eqb, ne_eqb}
-use Rattle.sheet.specs.declared.Verdict.TheVariants.{Passes}
+use Rattle.sheet.specs.Verdicts.{Passes}
 use Rattle.sheet.specs.Format.{lowest_lot, record_count, same_sign, apart_sign, sign_at, next_at, vacant}
 use Rattle.sheet.specs.Checks.{check5, reached, twice, into_vacant, member, walk_chain, walk_chains}
 use Rattle.sheet.proofs.Distinct.{Distinct, distinct_cons, distinct_length}

@@ -1,9 +1,9 @@
 -- What a service answers, in document 01's numbers.
-use Rattle.std.specs.Prelude.{ℕ, List}
-use Rattle.sheet.specs.declared.Verdict.{Verdict}
-use Rattle.sheet.specs.declared.Verdict.TheVariants.{Passes, Refuses}
-use Rattle.sheet.specs.declared.Reading.{Reading}
-use Rattle.sheet.specs.declared.Reading.TheVariants.{Accepted, Refused}
+use Rattle.std.specs.Prelude.{ℕ, List, Result, Ok, Err}
+use Rattle.sheet.specs.Verdicts.{Verdict, Passes, Refuses}
+use Rattle.sheet.specs.declared.Header.{Header}
+use Rattle.sheet.specs.declared.refusal.Refusal.{Refusal}
+use Rattle.sheet.specs.Refusals.{check_of, place_of}
 use Rattle.sheet.specs.Format.{lowest_lot, lot_count, condition_count, record_count}
 use Rattle.sheet.specs.Checks.{sheet_verdict_with}
 
@@ -30,7 +30,11 @@ read_answer_with lowest s = answer_of (sheet_verdict_with lowest s) (answered (l
 abbrev pub read_answer : List ℕ → Answer
 read_answer s = read_answer_with lowest_lot s
 
+-- A result's answer: what is answered of its value, or the refusal in the documents' numbers.
+abbrev pub result_answer : {A : Type 0} → (A → Answer) → Result A Refusal → Answer
+result_answer f (Ok a) = f a
+result_answer f (Err r) = refused (check_of r) (place_of r)
+
 -- The reader's cases.
-abbrev pub reading_answer : Reading → Answer
-reading_answer (Accepted n m k) = answered n m k
-reading_answer (Refused check place) = refused check place
+abbrev pub reading_answer : Result Header Refusal → Answer
+reading_answer = result_answer (λ h. answered h.lots h.conditions h.records)

@@ -1,7 +1,6 @@
 -- Checks 1 to 7, in the order of document 01's table, "Where each check sits", and check 17 of document 02.
 use Rattle.std.specs.Prelude.{ℕ, zero, suc, Bool, true, false, cond, not, ◌&&◌, ◌||◌, List, [], ◌∷◌, ◌++◌, ◌≡◌, leb, ltb, eqb, length}
-use Rattle.sheet.specs.declared.Verdict.{Verdict}
-use Rattle.sheet.specs.declared.Verdict.TheVariants.{Passes, Refuses}
+use Rattle.sheet.specs.Verdicts.{Verdict, Passes, Refuses}
 use Rattle.sheet.specs.Format.{most_lots, most_conditions, most_records, lowest_lot, header_length, lot_count, condition_count, record_count, sheet_length, head_at, same_sign, apart_sign, sign_at, spare_at, first_lot_at, second_lot_at, next_at, vacant}
 
 -- ---- the first check that fails

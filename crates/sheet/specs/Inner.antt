@@ -3,8 +3,7 @@ use Rattle.std.specs.Prelude.{ℕ, suc, ◌+◌, ◌-◌, ◌≤◌, Bool, false
 use Rattle.buffers.specs.Bytes.{number}
 use Rattle.sheet.specs.declared.Header.{Header}
 use Rattle.sheet.specs.declared.Term.{Term}
-use Rattle.sheet.specs.declared.Verdict.{Verdict}
-use Rattle.sheet.specs.declared.Verdict.TheVariants.{Passes, Refuses}
+use Rattle.sheet.specs.Verdicts.{Verdict, Passes, Refuses}
 use Rattle.sheet.specs.Format.{most_lots, most_conditions, most_records, lot_count, condition_count, record_count, sheet_length, head_at, record_place, sign_at, first_lot_at, second_lot_at, next_at, vacant}
 use Rattle.sheet.specs.Checks.{Walk, reached, twice, into_vacant, member, walk_chain, lowest_refusal, Accepted}
 

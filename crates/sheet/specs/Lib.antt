@@ -1,4 +1,6 @@
 pub mod Format
+pub mod Verdicts
+pub mod Refusals
 pub mod Checks
 pub mod Conditions
 pub mod Answers

@@ -11,12 +11,9 @@ use lib.ListN.{length}
 use Rattle.sheet.specs.Format.{lowest_lot, lot_count, condition_count}
 use Rattle.sheet.specs.Checks.{lot_in_range}
 use Rattle.sheet.specs.Conditions.{same}
-use Rattle.sheet.specs.declared.Verdict.{Verdict}
-use Rattle.sheet.specs.declared.Verdict.TheVariants.{Passes, Refuses}
+use Rattle.sheet.specs.Verdicts.{Verdict, Passes, Refuses}
 use Rattle.limit.specs.Meaning.{Limit, unlimited, up_to}
 use Rattle.limit.specs.Rule.{clique_passes}
-use Rattle.limit.specs.Scan.{limit_of}
-use Rattle.limit.proofs.Range.{limit_of_lem}
 use Rattle.store.specs.Records.{NodeRecord, split_record, ground_record}
 use Rattle.refutation.specs.Refutation.{most_splits, Split, decisions_of, ground_fails, same_split, nearest, turned, must_end, after_ground}
 use Rattle.refutation.specs.Refutation.{named, condition_in_range, walk_clique, walk_record}
@@ -132,19 +129,19 @@ module _ (s : List ℕ) (c : ℕ) where
 
 -- ---- a clique
 
-module _ (limit n : ℕ) (walk_rest : ℕ → List Split → Verdict) (rest : List NodeRecord) (r : ℕ) (above : List Split) where
-  abbrev pub AtClique : Verdict → Type 0
-  AtClique v = walk_clique (limit_of limit) n walk_rest rest r above ≡ v
-
+module _ (n : ℕ) (walk_rest : ℕ → List Split → Verdict) (rest : List NodeRecord) (r : ℕ) (above : List Split) where
   -- Without a limit there is none.
-  pub unlimited-clique : limit ≡ 0 → AtClique (Refuses 11 r)
-  unlimited-clique e = ap (λ (g : ℕ). walk_clique (limit_of g) n walk_rest rest r above) e
+  pub unlimited-clique : walk_clique unlimited n walk_rest rest r above ≡ Refuses 11 r
+  unlimited-clique = refl
 
-  module _ (some : 1 ≤ limit) where
+  module _ (limit : ℕ) where
+    abbrev pub AtClique : Verdict → Type 0
+    AtClique v = walk_clique (up_to limit) n walk_rest rest r above ≡ v
+
     -- With one, fewer classes are left or two of the first aren't marked apart,
     pub not-clique : clique_passes limit n (decisions_of above) ≡ false → AtClique (Refuses 12 r)
-    not-clique e = rw (limit_of_lem limit some) (simp e)
+    not-clique e = simp e
 
     -- or what follows decides.
     pub cliqued : clique_passes limit n (decisions_of above) ≡ true → AtClique (after_ground walk_rest rest (r + 1) (nearest above))
-    cliqued e = rw (limit_of_lem limit some) (simp (e, add-one r))
+    cliqued e = simp (e, add-one r)

@@ -1,16 +1,15 @@
 -- The steps of the walk, for the contracts of the code; this file states nothing of document 01.
-use Rattle.std.specs.Prelude.{ℕ, ◌*◌, ◌≤◌, ◌<◌, Bool, true, false, List, [], ◌∷◌, ◌≡◌, length}
+use Rattle.std.specs.Prelude.{ℕ, ◌*◌, ◌≤◌, ◌<◌, Bool, true, false, List, [], ◌∷◌, Option, None, Some, Result, Ok, Err, ◌≡◌, length}
+use Rattle.sheet.specs.declared.refusal.Refusal.{Refusal}
+use Rattle.sheet.specs.Refusals.{check_of, place_of}
 use Rattle.sheet.specs.declared.Header.{Header}
-use Rattle.sheet.specs.declared.Verdict as verdicts
-use Rattle.sheet.specs.declared.Verdict.TheVariants as verdict
+use Rattle.sheet.specs.Verdicts.{Verdict, Passes, Refuses}
 use Rattle.sheet.specs.Format.{lot_count}
 use Rattle.sheet.specs.Inner.{HasConditions}
 use Rattle.store.specs.Records.{NodeRecord}
 use Rattle.refutation.specs.Refutation.{Split}
 use Rattle.path.specs.Paths.{split_length, path_of}
 use Rattle.levels.specs.Levels.{Walkable}
-use Rattle.steps.specs.declared.Step.{Step}
-use Rattle.steps.specs.declared.Step.TheVariants.{On, Passes, Refuses}
 
 -- The sheet is accepted, and these are its counts of lots and conditions.
 pub record Counted (s : List ℕ) (counts : Header) : Type 0 where
@@ -27,14 +26,14 @@ abbrev pub Rest : Type 0
 Rest = List NodeRecord
 
 abbrev pub WalkRest : Type 0
-WalkRest = ℕ → List Split → verdicts.Verdict
+WalkRest = ℕ → List Split → Verdict
 
 -- What a step makes of the walk, whose rest is `walk_rest`: it goes on at the following record with so many splits above it, the list passes, or a check
 -- refuses.
-abbrev pub step_as : WalkRest → ℕ → List ℕ → Step → verdicts.Verdict
-step_as walk_rest following path (On depth) = walk_rest following (path_of path depth)
-step_as walk_rest following path Passes = verdict.Passes
-step_as walk_rest following path (Refuses check place) = verdict.Refuses check place
+abbrev pub step_as : WalkRest → ℕ → List ℕ → Result (Option ℕ) Refusal → Verdict
+step_as walk_rest following path (Ok (Some depth)) = walk_rest following (path_of path depth)
+step_as walk_rest following path (Ok None) = Passes
+step_as walk_rest following path (Err r) = Refuses (check_of r) (place_of r)
 
 -- No record is left.
 abbrev pub none_left : Rest → Bool
@@ -42,7 +41,7 @@ none_left [] = true
 none_left (r ∷ rest) = false
 
 -- Where the walk goes on, its path is one, and the levels are those of its splits.
-abbrev pub GoesOn : List ℕ → List ℕ → List ℕ → Step → Type 0
-GoesOn path maps levels (On depth) = Walkable path maps levels depth
-GoesOn path maps levels Passes = Unit {0}
-GoesOn path maps levels (Refuses check place) = Unit {0}
+abbrev pub GoesOn : List ℕ → List ℕ → List ℕ → Result (Option ℕ) Refusal → Type 0
+GoesOn path maps levels (Ok (Some depth)) = Walkable path maps levels depth
+GoesOn path maps levels (Ok None) = Unit {0}
+GoesOn path maps levels (Err r) = Unit {0}

@@ -17,11 +17,24 @@ pub const MOST_NODES: usize = 65535;
 // Where in a node record its next stands.
 const NEXT_PLACE: usize = 6;
 
+// The kinds of node records, by their bytes: the law has a record decoded by a match on its kind byte with ranges.
+const SPLIT: u8 = 1;
+
+const GROUND: u8 = 2;
+
+const MET: u8 = 3;
+
+const CLIQUE: u8 = 4;
+
+// The kind of bytes that are none of these, as `write` writes it; all kinds behind the last are so too.
+const NO_RECORD: u8 = 0;
+
 // The number of a node record, from 1; zero stands for none. Term records (sheet::Record) have numbers of their own.
 #[derive(Clone, Copy)]
 pub struct NodeNumber(pub u32);
 
-// A node record: a split of two lots with its next, the ground that is a condition, met, a clique, or bytes that are none of these.
+// A node record: a split of two lots with its next, the ground that is a condition, met, a clique, or bytes that are none of these. The last is no Option's
+// None: the contract of `write` covers it, and each of its callers would have to wrap what it writes.
 #[derive(Clone, Copy)]
 pub enum NodeRecord {
     Split(Lot, Lot, NodeNumber),
@@ -35,12 +48,7 @@ pub enum NodeRecord {
 pub fn capacity_of(store: &[u8]) -> usize
     ensures { result ≡ capacity store.now }
 {
-    let whole = store.len() / RECORD_LENGTH;
-    if whole < MOST_NODES {
-        whole
-    } else {
-        MOST_NODES
-    }
+    (store.len() / RECORD_LENGTH).min(MOST_NODES)
 }
 
 // Where a node record begins.
@@ -79,17 +87,18 @@ fn put_fields(
 }
 
 // Writes a node record.
+#[tactic(auto, unfolding(crate::specs::Records::encode))]
 pub fn write(store: &mut [u8], number: NodeNumber, node: NodeRecord)
     requires { HasPlace store.old number.0 × Fits (record_of node) }
     ensures { store.new
         ≡ sets store.old (record_length * (number.0 - 1)) (encode (record_of node)) }
 {
     match node {
-        NodeRecord::Split(a, b, next) => put_fields(store, number, 1, a.0, b.0, next),
-        NodeRecord::Ground(c) => put_fields(store, number, 2, c.0, 0, NodeNumber(0)),
-        NodeRecord::Met => put_fields(store, number, 3, 0, 0, NodeNumber(0)),
-        NodeRecord::Clique => put_fields(store, number, 4, 0, 0, NodeNumber(0)),
-        NodeRecord::Other => put_fields(store, number, 0, 0, 0, NodeNumber(0)),
+        NodeRecord::Split(a, b, next) => put_fields(store, number, SPLIT, a.0, b.0, next),
+        NodeRecord::Ground(c) => put_fields(store, number, GROUND, c.0, 0, NodeNumber(0)),
+        NodeRecord::Met => put_fields(store, number, MET, 0, 0, NodeNumber(0)),
+        NodeRecord::Clique => put_fields(store, number, CLIQUE, 0, 0, NodeNumber(0)),
+        NodeRecord::Other => put_fields(store, number, NO_RECORD, 0, 0, NodeNumber(0)),
     }
 }
 
@@ -103,35 +112,37 @@ pub fn set_next(store: &mut [u8], number: NodeNumber, next: NodeNumber)
 }
 
 // The node record of these fields, where those that have to be 0 are.
+#[tactic(auto, unfolding(crate::specs::Records::of_kind))]
 fn decode_fields(kind: u8, spare: u8, first: u16, second: u16, next: u16) -> NodeRecord
     ensures { record_of result ≡ of_kind kind spare first second next }
 {
     match kind {
-        1 => if spare == 0 {
-            NodeRecord::Split(Lot(first), Lot(second), NodeNumber(next as u32))
+        SPLIT => if spare == 0 {
+            NodeRecord::Split(Lot(first), Lot(second), NodeNumber(u32::from(next)))
         } else {
             NodeRecord::Other
         },
-        2 => if spare == 0 && second == 0 && next == 0 {
+        GROUND => if spare == 0 && second == 0 && next == 0 {
             NodeRecord::Ground(Condition(first))
         } else {
             NodeRecord::Other
         },
-        3 => if spare == 0 && first == 0 && second == 0 && next == 0 {
+        MET => if spare == 0 && first == 0 && second == 0 && next == 0 {
             NodeRecord::Met
         } else {
             NodeRecord::Other
         },
-        4 => if spare == 0 && first == 0 && second == 0 && next == 0 {
+        CLIQUE => if spare == 0 && first == 0 && second == 0 && next == 0 {
             NodeRecord::Clique
         } else {
             NodeRecord::Other
         },
-        0 | 5..=255 => NodeRecord::Other,
+        NO_RECORD | 5..=255 => NodeRecord::Other,
     }
 }
 
 // Reads a node record.
+#[tactic(auto, unfolding(crate::specs::Records::decode))]
 pub fn read(list: &[u8], number: NodeNumber) -> NodeRecord
     requires { HasPlace list.now number.0 }
     ensures { record_of result ≡ record_at list.now number.0 }
@@ -149,10 +160,5 @@ pub fn clear(store: &mut [u8], count: usize)
     ensures { store.new
         ≡ replicate (record_length * count) 0 ++ drop (record_length * count) store.old }
 {
-    let end = RECORD_LENGTH * count;
-    let mut i = 0;
-    while i < end {
-        store[i] = 0;
-        i += 1;
-    }
+    store[..RECORD_LENGTH * count].fill(0);
 }

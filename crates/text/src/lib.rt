@@ -8,7 +8,7 @@ ghost use Rattle.text.specs.Program.{printed};
 ghost use Rattle.buffers.specs.Written.{WroteFirst};
 ghost use Rattle.text.specs.Code.{Lent, text_room};
 
-use search::SearchAnswer;
+use search::Found;
 use texts::{cannot_text, met_text, refused_text};
 
 // Room for every text of the program.
@@ -28,12 +28,10 @@ fn print_search(sheet: &[u8], grouping: &mut [u8], store: &mut [u8], out: &mut [
     requires { Lent sheet.now grouping.old store.old × (text_room ≤ length out.old) }
     ensures { WroteFirst out.old out.new result (printed sheet.now) }
 {
-    let answer = search::search(sheet, grouping, store);
-    match answer {
-        SearchAnswer::Met { count } => met_text(out, sheet, count, grouping, store),
-        SearchAnswer::Cannot { count } => cannot_text(out, sheet, count, store),
-        SearchAnswer::Full { capacity } => refused_text(out, 9, capacity),
-        SearchAnswer::Refused { check, place } => refused_text(out, check, place),
+    match search::search(sheet, grouping, store) {
+        Ok(Found::Met { count }) => met_text(out, sheet, count, grouping, store),
+        Ok(Found::Cannot { count }) => cannot_text(out, sheet, count, store),
+        Err(refusal) => refused_text(out, refusal.check(), refusal.place()),
     }
 }
 
@@ -43,10 +41,6 @@ pub fn print(input: &[u8], out: &mut [u8; TEXT_ROOM]) -> usize
 {
     let mut grouping = [0u8; GROUPING_ROOM];
     let mut store = [0u8; STORE_ROOM];
-    let n = if input.len() < MOST_INPUT {
-        input.len()
-    } else {
-        MOST_INPUT
-    };
+    let n = input.len().min(MOST_INPUT);
     print_search(&input[..n], &mut grouping, &mut store, out)
 }

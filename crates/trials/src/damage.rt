@@ -5,127 +5,77 @@ use crate::tally::Damage;
 use generator::blanks;
 use second_solver::{partitions, table};
 
-// A byte changed: one more, or its lowest or its highest bit turned.
-fn changed(byte: u8, way: u8) -> u8 {
-    if way == 1 {
-        byte ^ 1
-    } else if way == 2 {
-        byte ^ 128
-    } else if byte == 255 {
-        0
-    } else {
-        byte + 1
+// What the checker says as the two stand now. The second solver is asked where the list passes.
+fn examine(sheet: &[u8], list: &[u8], damage: &mut Damage) {
+    let answer = services::checked(sheet, list);
+    damage.count(!table::agrees(sheet, 128, answer.err()));
+    if answer.is_ok() {
+        damage.count_passed(partitions::verdict(sheet));
     }
 }
 
-// What the checker says as the two stand now. The second solver is asked where the list passes.
-fn examined(sheet: &[u8], list: &[u8], damage: Damage) -> Damage {
-    let answer = services::checked(sheet, list);
-    let passed = answer.kind == 1;
-    let verdict = if passed {
-        partitions::verdict(sheet)
-    } else {
-        2
-    };
-    damage.count(passed, verdict, !table::agrees(sheet, 128, answer))
+// One byte changed in three ways, one more, or its lowest or its highest bit turned, and then put back; each time the bytes are looked at.
+fn change_byte<F: FnMut(&[u8])>(bytes: &mut [u8], at: usize, look: &mut F)
+    requires { F.IsAlwaysCallable look.old }
+    ensures { F.IsAlwaysCallable look.new }
+{
+    let byte = raw::byte_at(bytes, at);
+    for changed in [byte.wrapping_add(1), byte ^ 1, byte ^ 128] {
+        raw::put(bytes, at, changed);
+        look(bytes);
+    }
+    raw::put(bytes, at, byte);
 }
 
-// One byte of the list changed in one way, and then put back.
-fn list_byte(sheet: &[u8], list: &mut [u8], at: usize, way: u8, damage: Damage) -> Damage {
-    let byte = raw::byte_at(list, at);
-    raw::put(list, at, changed(byte, way));
-    let after = examined(sheet, list, damage);
-    raw::put(list, at, byte);
-    after
+// Every byte, from the last one down.
+fn change_bytes<F: FnMut(&[u8])>(bytes: &mut [u8], mut look: F)
+    requires { F.IsAlwaysCallable look }
+{
+    for at in (0..bytes.len()).rev() {
+        change_byte(bytes, at, &mut look);
+    }
 }
 
-// One byte of the sheet changed in one way, and then put back.
-fn sheet_byte(sheet: &mut [u8], list: &[u8], at: usize, way: u8, damage: Damage) -> Damage {
-    let byte = raw::byte_at(sheet, at);
-    raw::put(sheet, at, changed(byte, way));
-    let after = examined(sheet, list, damage);
-    raw::put(sheet, at, byte);
-    after
+// A copy of the sheet, for a change. No sheet that is read or generated here has more than 2,048 bytes.
+fn on_copy<F: FnOnce(&mut [u8])>(sheet: &[u8], change: F)
+    requires { F.IsAlwaysCallable change }
+{
+    let mut copy = [0; 2048];
+    if sheet.len() <= 2048 {
+        let n = raw::copy(sheet, &mut copy);
+        change(&mut copy[..n]);
+    }
 }
 
 // Every byte of the list.
-pub fn lists(sheet: &[u8], list: &mut [u8], damage: Damage) -> Damage {
-    let mut now = damage;
-    let mut at = list.len();
-    while 0 < at {
-        at -= 1;
-        now = list_byte(sheet, list, at, 0, now);
-        now = list_byte(sheet, list, at, 1, now);
-        now = list_byte(sheet, list, at, 2, now);
+pub fn lists(sheet: &[u8], list: &mut [u8], damage: &mut Damage) {
+    change_bytes(list, |list| examine(sheet, list, damage));
+}
+
+// Every byte of the sheet, in a copy.
+pub fn sheets(sheet: &[u8], list: &[u8], damage: &mut Damage) {
+    on_copy(
+        sheet,
+        |copy| change_bytes(copy, |sheet| examine(sheet, list, damage)),
+    );
+}
+
+// The condition that has c before it in three ways one after the other: its head zero while its records are left; withdrawn; its records vacant, and its head
+// put back, so that its chain reaches a vacant record.
+fn withdraw(sheet: &mut [u8], list: &[u8], c: u16, damage: &mut Damage) {
+    let head = raw::number_at(sheet, raw::head_field(c));
+    raw::put_number(sheet, raw::head_field(c), 0);
+    examine(sheet, list, damage);
+    raw::put_number(sheet, raw::head_field(c), head);
+    blanks::withdraw(sheet, c);
+    examine(sheet, list, damage);
+    raw::put_number(sheet, raw::head_field(c), head);
+    examine(sheet, list, damage);
+}
+
+// Every condition of the sheet, each in a copy.
+pub fn conditions(sheet: &[u8], list: &[u8], damage: &mut Damage) {
+    for c in (0..raw::number_at(sheet, 2)).rev() {
+        on_copy(sheet, |copy| withdraw(copy, list, c, damage));
     }
-    now
-}
-
-// Every byte of the sheet.
-fn sheets(sheet: &mut [u8], list: &[u8], damage: Damage) -> Damage {
-    let mut now = damage;
-    let mut at = sheet.len();
-    while 0 < at {
-        at -= 1;
-        now = sheet_byte(sheet, list, at, 0, now);
-        now = sheet_byte(sheet, list, at, 1, now);
-        now = sheet_byte(sheet, list, at, 2, now);
-    }
-    now
-}
-
-// Every byte of the sheet, in a copy. No sheet that is read or generated here has more than 2,048 bytes.
-pub fn copied(sheet: &[u8], list: &[u8], damage: Damage) -> Damage {
-    let mut copy = [0u8; 2048];
-    if 2048 < sheet.len() {
-        return damage;
-    }
-    let n = raw::copy(sheet, &mut copy);
-    sheets(&mut copy[..n], list, damage)
-}
-
-// The head of the condition that has c before it is zero while its records are left, and is then put back.
-fn head_zero(sheet: &mut [u8], list: &[u8], c: u16, damage: Damage) -> Damage {
-    let head = raw::number_at(sheet, blanks::head_place(c));
-    raw::put_number(sheet, blanks::head_place(c), 0);
-    let after = examined(sheet, list, damage);
-    raw::put_number(sheet, blanks::head_place(c), head);
-    after
-}
-
-// The condition is withdrawn, and then its head put back, so that its chain reaches a vacant record.
-fn withdrawn(sheet: &mut [u8], list: &[u8], c: u16, damage: Damage) -> Damage {
-    let m = raw::number_at(sheet, 2);
-    let head = raw::number_at(sheet, blanks::head_place(c));
-    blanks::withdraw(sheet, m, c);
-    let after = examined(sheet, list, damage);
-    raw::put_number(sheet, blanks::head_place(c), head);
-    examined(sheet, list, after)
-}
-
-// The condition in three ways one after the other: its head zero, withdrawn, its records vacant and its head left.
-fn in_three_ways(sheet: &mut [u8], list: &[u8], c: u16, damage: Damage) -> Damage {
-    let after = head_zero(sheet, list, c, damage);
-    withdrawn(sheet, list, c, after)
-}
-
-// The same in a copy.
-fn condition(sheet: &[u8], list: &[u8], c: u16, damage: Damage) -> Damage {
-    let mut copy = [0u8; 2048];
-    if 2048 < sheet.len() {
-        return damage;
-    }
-    let n = raw::copy(sheet, &mut copy);
-    in_three_ways(&mut copy[..n], list, c, damage)
-}
-
-// Every condition of the sheet.
-pub fn conditions(sheet: &[u8], list: &[u8], damage: Damage) -> Damage {
-    let mut now = damage;
-    let mut c = raw::number_at(sheet, 2);
-    while 0 < c {
-        c -= 1;
-        now = condition(sheet, list, c, now);
-    }
-    now
 }

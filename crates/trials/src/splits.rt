@@ -3,17 +3,37 @@
 ghost use Rattle.std.specs.Prelude.{◌≤◌};
 
 use crate::services;
-use second_solver::Answer;
+use raw::Record;
+use second_solver::Refusal;
 
 // The bytes of the longest such list: 1,025 splits and 1,026 grounds.
 const ROOM: usize = 16408;
 
-fn put_node(list: &mut [u8], r: u16, kind: u8, first: u16, second: u16, next: u16) {
-    raw::put(list, raw::node_field(r, 0), kind);
-    raw::put(list, raw::node_field(r, 1), 0);
-    raw::put_number(list, raw::node_field(r, 2), first);
-    raw::put_number(list, raw::node_field(r, 4), second);
-    raw::put_number(list, raw::node_field(r, 6), next);
+// The sheet of one condition, "apart 1 1".
+const APART: [u8; 16] = [1, 0, 1, 0, 1, 0, 1, 0, 2, 0, 1, 0, 1, 0, 0, 0];
+
+// A ground that names condition 1.
+const GROUND: Record = Record {
+    kind: 2,
+    spare: 0,
+    first: 1,
+    second: 0,
+    next: 0,
+};
+
+fn put_node(list: &mut [u8], r: u16, node: Record) {
+    raw::put_record(list, raw::node_field(r, 0), node);
+}
+
+// A split of these lots; its same branch is the record after it, its apart branch `next`.
+fn split(a: u16, b: u16, next: u16) -> Record {
+    Record {
+        kind: 1,
+        spare: 0,
+        first: a,
+        second: b,
+        next,
+    }
 }
 
 // Records 1 to s: splits of lot 1 and lot 1, each in the same branch of the one before. The last one's apart branch is the second ground, the one before
@@ -21,10 +41,8 @@ fn put_node(list: &mut [u8], r: u16, kind: u8, first: u16, second: u16, next: u1
 fn put_splits(list: &mut [u8], s: u16)
     requires { s ≤ 1025 }
 {
-    let mut r = s;
-    while 0 < r {
-        put_node(list, r, 1, 1, 1, 2 * s + 2 - r);
-        r -= 1;
+    for r in 1..=s {
+        put_node(list, r, split(1, 1, 2 * s + 2 - r));
     }
 }
 
@@ -32,45 +50,37 @@ fn put_splits(list: &mut [u8], s: u16)
 fn put_grounds(list: &mut [u8], s: u16)
     requires { s ≤ 1025 }
 {
-    let mut left = s + 1;
-    while 0 < left {
-        put_node(list, s + left, 2, 1, 0, 0);
-        left -= 1;
+    for r in s + 1..=2 * s + 1 {
+        put_node(list, r, GROUND);
     }
 }
 
 // What the checker says of a list of s splits on a path, and s + 1 grounds.
-pub fn splits_on_a_path(s: u16) -> Answer
+pub fn splits_on_a_path(s: u16) -> Result<(), Refusal>
     requires { s ≤ 1025 }
 {
-    let mut list = [0u8; ROOM];
+    let mut list = [0; ROOM];
     put_splits(&mut list, s);
     put_grounds(&mut list, s);
     let length = 8 * (2 * (s as usize) + 1);
-    services::checked(
-        &[1u8, 0, 1, 0, 1, 0, 1, 0, 2, 0, 1, 0, 1, 0, 0, 0],
-        &list[..length],
-    )
+    services::checked(&APART, &list[..length])
 }
 
 // What the checker says of a ground that names the one condition of its sheet, which is withdrawn.
-pub fn ground_of_withdrawn() -> Answer {
-    services::checked(&[1u8, 0, 1, 0, 0, 0, 0, 0], &[2u8, 0, 1, 0, 0, 0, 0, 0])
+pub fn ground_of_withdrawn() -> Result<(), Refusal> {
+    services::checked(&[1, 0, 1, 0, 0, 0, 0, 0], &[2, 0, 1, 0, 0, 0, 0, 0])
 }
 
 // What the checker says of a ground that names condition 0, which no sheet has.
-pub fn ground_of_zero() -> Answer {
-    services::checked(
-        &[1u8, 0, 1, 0, 1, 0, 1, 0, 2, 0, 1, 0, 1, 0, 0, 0],
-        &[2u8, 0, 0, 0, 0, 0, 0, 0],
-    )
+pub fn ground_of_zero() -> Result<(), Refusal> {
+    services::checked(&APART, &[2, 0, 0, 0, 0, 0, 0, 0])
 }
 
 // What the checker says of one split of these lots, where the sheet's n is 0.
-pub fn split_of(a: u16, b: u16) -> Answer {
-    let mut list = [0u8; 24];
-    put_node(&mut list, 1, 1, a, b, 3);
-    put_node(&mut list, 2, 2, 1, 0, 0);
-    put_node(&mut list, 3, 2, 1, 0, 0);
-    services::checked(&[0u8, 0, 1, 0, 1, 0, 1, 0, 2, 0, 0, 0, 0, 0, 0, 0], &list)
+pub fn split_of(a: u16, b: u16) -> Result<(), Refusal> {
+    let mut list = [0; 24];
+    put_node(&mut list, 1, split(a, b, 3));
+    put_node(&mut list, 2, GROUND);
+    put_node(&mut list, 3, GROUND);
+    services::checked(&[0, 0, 1, 0, 1, 0, 1, 0, 2, 0, 0, 0, 0, 0, 0, 0], &list)
 }

@@ -6,12 +6,10 @@
 // buffer after the call. The program compares nothing itself.
 #![tactic(auto)]
 
-ghost use Rattle.std.specs.Prelude.{◌≤◌, length, IfOk};
-
 use numbers::Numbers;
 use std::fs::File;
-use std::io;
 use std::io::{BufReader, Bytes, Read, Write};
+use std::{fmt, io};
 
 // The most cases that are run, so that there is an end to them whatever the file has.
 const MOST_CASES: u32 = 100000;
@@ -22,84 +20,109 @@ fn main(rt: HostRuntime) -> io::Result<()> {
     cases(&mut from, &mut io::writer(&rt))
 }
 
-// All cases.
+// The service of a case.
+#[derive(Clone, Copy, Debug, PartialEq, Eq)]
+enum Service {
+    Read,
+    Search,
+    Check,
+    Evaluate,
+}
+
+// A byte that is no service's.
+#[derive(Clone, Copy, Debug, PartialEq, Eq)]
+struct UnknownService(u8);
+
+impl TryFrom<u8> for Service {
+    type Error = UnknownService;
+
+    fn try_from(byte: u8) -> Result<Self, UnknownService> {
+        match byte {
+            0 => Ok(Service::Read),
+            1 => Ok(Service::Search),
+            2 => Ok(Service::Check),
+            3 => Ok(Service::Evaluate),
+            _ => Err(UnknownService(byte)),
+        }
+    }
+}
+
+// The byte again.
+impl fmt::Display for Service {
+    fn fmt<W: fmt::Write>(&self, f: &mut fmt::Formatter<W>) -> fmt::Result {
+        f.write_str(match self {
+            Service::Read => "0",
+            Service::Search => "1",
+            Service::Check => "2",
+            Service::Evaluate => "3",
+        })
+    }
+}
+
+// All cases. A byte that is no service's ends them, as the end of the file does.
 fn cases<R: Read + Drop>(from: &mut Bytes<R>, out: &mut impl Write) -> io::Result<()> {
     for _ in 0..MOST_CASES {
-        let service = byte(from)?;
-        if 3 < service {
+        let Ok(service) = Service::try_from(byte(from)?) else {
             break;
-        }
+        };
         case(from, service, out)?;
     }
     Ok(())
 }
 
-// One case, read whole and run.
-fn case<R: Read + Drop>(from: &mut Bytes<R>, service: u8, out: &mut impl Write) -> io::Result<()> {
-    let mut sheet = [0u8; 4096];
-    let mut second = [0u8; 8192];
-    let mut third = [0u8; 8192];
-    let a = buffer(from, &mut sheet)?;
-    let b = buffer(from, &mut second)?;
-    let c = buffer(from, &mut third)?;
-    run(service, &sheet[..a], &mut second[..b], &mut third[..c], out)
-}
-
-// The next byte; 255 at the end of the file.
-fn byte<R: Read + Drop>(from: &mut Bytes<R>) -> io::Result<u8> {
-    match from.next() {
-        Some(read) => read,
-        None => Ok(255),
-    }
-}
-
-// A buffer's length and its bytes, put at the start of a place for them; how many there are.
-fn buffer<R: Read + Drop>(from: &mut Bytes<R>, bytes: &mut [u8]) -> io::Result<usize>
-    ensures { IfOk result (λ n. n ≤ length bytes.new) }
-{
-    let n = two_bytes(from)?;
-    two_bytes(from)?;
-    if bytes.len() < n {
-        return Ok(0);
-    }
-    for i in 0..n {
-        bytes[i] = byte(from)?;
-    }
-    Ok(n)
-}
-
-fn two_bytes<R: Read + Drop>(from: &mut Bytes<R>) -> io::Result<usize> {
-    let low = byte(from)? as usize;
-    let high = byte(from)? as usize;
-    Ok(low + 256 * high)
-}
-
-// One case: the call, and its line.
-fn run(
-    service: u8,
-    sheet: &[u8],
-    second: &mut [u8],
-    third: &mut [u8],
+// One case, read whole and run: the call, and its line.
+fn case<R: Read + Drop>(
+    from: &mut Bytes<R>,
+    service: Service,
     out: &mut impl Write,
 ) -> io::Result<()> {
+    let mut sheet = [0; 4096];
+    let mut second = [0; 8192];
+    let mut third = [0; 8192];
+    let sheet = buffer(from, &mut sheet)?;
+    let second = buffer(from, &mut second)?;
+    let third = buffer(from, &mut third)?;
     let answer = call(service, sheet, second, third);
     say(service, answer, second, third, out)
 }
 
-fn call(service: u8, sheet: &[u8], second: &mut [u8], third: &mut [u8]) -> Numbers {
-    if service == 0 {
-        lihumbay::lihumbay_read(sheet)
-    } else if service == 1 {
-        lihumbay::lihumbay_search(sheet, second, third)
-    } else if service == 2 {
-        lihumbay::lihumbay_check(sheet, second)
-    } else {
-        lihumbay::lihumbay_evaluate(sheet, second)
+// The next byte; 255 at the end of the file, in a buffer too, so that a file that breaks off is run as far as it goes, as it always was.
+fn byte<R: Read + Drop>(from: &mut Bytes<R>) -> io::Result<u8> {
+    from.next().unwrap_or(Ok(255))
+}
+
+// A buffer's length and its bytes, put at the start of a place for them; these, or none where it has no room for them.
+fn buffer<'a, R: Read + Drop>(
+    from: &mut Bytes<R>,
+    place: &'a mut [u8],
+) -> io::Result<&'a mut [u8]> {
+    let n = two_bytes(from)?;
+    two_bytes(from)?;
+    let Some(bytes) = place.get_mut(..n) else {
+        return Ok(&mut []);
+    };
+    for put in bytes.iter_mut() {
+        *put = byte(from)?;
+    }
+    Ok(bytes)
+}
+
+fn two_bytes<R: Read + Drop>(from: &mut Bytes<R>) -> io::Result<usize> {
+    let bytes = [byte(from)?, byte(from)?];
+    Ok(u16::from_le_bytes(bytes) as usize)
+}
+
+fn call(service: Service, sheet: &[u8], second: &mut [u8], third: &mut [u8]) -> Numbers {
+    match service {
+        Service::Read => lihumbay::lihumbay_read(sheet),
+        Service::Search => lihumbay::lihumbay_search(sheet, second, third),
+        Service::Check => lihumbay::lihumbay_check(sheet, second),
+        Service::Evaluate => lihumbay::lihumbay_evaluate(sheet, second),
     }
 }
 
 fn say(
-    service: u8,
+    service: Service,
     answer: Numbers,
     second: &[u8],
     third: &[u8],
@@ -120,12 +143,10 @@ fn say(
 // The sum of (position from 1) × byte, modulo 65,521: a byte is counted once for each position up to its own, so from the last byte down the sums of what
 // was passed are summed.
 fn checksum(bytes: &[u8]) -> u64 {
-    let mut sum: u64 = 0;
-    let mut passed: u64 = 0;
-    let mut i = bytes.len();
-    while 0 < i {
-        i -= 1;
-        passed = (passed + (bytes[i] as u64)) % 65521;
+    let mut sum = 0;
+    let mut passed = 0;
+    for byte in bytes.iter().rev() {
+        passed = (passed + u64::from(*byte)) % 65521;
         sum = (sum + passed) % 65521;
     }
     sum

@@ -1,6 +1,6 @@
 -- How the visit of a tree is put together: a leaf's record; a split's record, its same branch, and its apart branch. A visit that ends writes the records of
 -- its tree and no more; one that finds the store full leaves the grouping.
-use Prim.Native.Nat.{ℕ, ◌+◌, ◌*◌, ◌/◌, ◌≤◌, ◌<◌, min}
+use Prim.Native.Nat.{ℕ, ◌+◌, ◌-◌, ◌*◌, ◌/◌, ◌≤◌, ◌<◌, min}
 use mathlib.Core.Bool.{Bool, true, false, cond}
 use mathlib.Core.List.{List, ◌∷◌, ◌++◌, append-nil}
 use mathlib.Core.Path.{◌≡◌, refl, sym, ap, ◌∙◌}
@@ -44,6 +44,13 @@ fits_end S before t m h e = simp (le-leb _ _ h, e)
 pub full_end : (S before : ℕ) (t : Tree) → S < before + node_count t → Full ≡ end_of S before t
 full_end S before t h = simp (lt-leb _ _ h)
 
+-- A record is written where its number says.
+pub written_here : (before : ℕ) (store store' bytes : List ℕ) → store' ≡ sets store (record_length * (before + 1 - 1)) bytes
+    → store' ≡ sets store (record_length * before) bytes
+written_here before store store' bytes e =
+    let place : before + 1 - 1 ≡ before = omega arith in
+    e ∙ ap (λ (k : ℕ). sets store (record_length * k) bytes) place
+
 -- ---- no room
 
 -- Where the store has no room for the first record the visit is over.
@@ -55,36 +62,36 @@ none_explored before store store' grouping t h =
 -- ---- a leaf
 
 module _ (before : ℕ) (store store' grouping : List ℕ) (room : before < capacity store) where
-  pub met_explored : (ds : Decisions) (grouping' : List ℕ) (t : Tree) → t ≡ met_leaf ds → store' ≡ sets store (record_length * before) (encode met_record)
+  pub met_explored : (ds : Decisions) (grouping' : List ℕ) (t : Tree) → t ≡ met_leaf ds → store' ≡ sets store (record_length * (before + 1 - 1)) (encode met_record)
       → grouping' ≡ grouping_bytes (length grouping) ds → Explored before store store' grouping grouping' (Met (before + 1)) t
   unfolding is_met node_count met_decisions records encode_all
   met_explored ds grouping' t leaf stored grouped =
       rw leaf
       (record {
         ends = fits_end (capacity store) before (met_leaf ds) true (omega arith) refl;
-        stored = λ fits. stored ∙ ap (sets store (record_length * before)) (sym (append-nil (encode met_record)));
+        stored = λ fits. written_here before store store' (encode met_record) stored ∙ ap (sets store (record_length * before)) (sym (append-nil (encode met_record)));
         grouped = grouped;
       })
 
-  pub ground_explored : (c : ℕ) (t : Tree) → t ≡ ground_leaf c → store' ≡ sets store (record_length * before) (encode (ground_record c))
+  pub ground_explored : (c : ℕ) (t : Tree) → t ≡ ground_leaf c → store' ≡ sets store (record_length * (before + 1 - 1)) (encode (ground_record c))
       → Explored before store store' grouping grouping (Cannot (before + 1)) t
   unfolding is_met node_count records encode_all
   ground_explored c t leaf stored =
       rw leaf
       (record {
         ends = fits_end (capacity store) before (ground_leaf c) false (omega arith) refl;
-        stored = λ fits. stored ∙ ap (sets store (record_length * before)) (sym (append-nil (encode (ground_record c))));
+        stored = λ fits. written_here before store store' (encode (ground_record c)) stored ∙ ap (sets store (record_length * before)) (sym (append-nil (encode (ground_record c))));
         grouped = refl;
       })
 
-  pub clique_explored : (t : Tree) → t ≡ clique_leaf → store' ≡ sets store (record_length * before) (encode clique_record)
+  pub clique_explored : (t : Tree) → t ≡ clique_leaf → store' ≡ sets store (record_length * (before + 1 - 1)) (encode clique_record)
       → Explored before store store' grouping grouping (Cannot (before + 1)) t
   unfolding is_met node_count records encode_all
   clique_explored t leaf stored =
       rw leaf
       (record {
         ends = fits_end (capacity store) before clique_leaf false (omega arith) refl;
-        stored = λ fits. stored ∙ ap (sets store (record_length * before)) (sym (append-nil (encode clique_record)));
+        stored = λ fits. written_here before store store' (encode clique_record) stored ∙ ap (sets store (record_length * before)) (sym (append-nil (encode clique_record)));
         grouped = refl;
       })
 

@@ -1,5 +1,5 @@
 -- The visit of a split, by how its same branch ended.
-use Prim.Native.Nat.{ℕ, ◌+◌, ◌*◌, ◌≤◌}
+use Prim.Native.Nat.{ℕ, ◌+◌, ◌-◌, ◌*◌, ◌≤◌}
 use mathlib.Core.Bool.{false≢true}
 use mathlib.Core.List.{List, ◌∷◌}
 use mathlib.Core.Path.{◌≡◌, refl, sym, ◌∙◌}
@@ -14,12 +14,15 @@ use Rattle.store.specs.Records.{split_record, record_length, set_next, encode, c
 use Rattle.visit.specs.declared.Visited.{Visited}
 use Rattle.visit.specs.declared.Visited.TheVariants.{Met, Cannot, Full}
 use Rattle.visit.specs.Visited.{Explored}
-use Rattle.visit.proofs.Exploring.{same_met, same_full, Turned, same_cannot, apart_full, apart_explored}
+use Rattle.visit.proofs.Exploring.{written_here, same_met, same_full, Turned, same_cannot, apart_full, apart_explored}
 
 -- The split's record is written (store₁), and then the same branch is visited, whose answer is r (store₂, grouping₂). v is what the rule visits.
 module _ {rule : Decisions → Node} {ds : Decisions} {a b : ℕ} {tree : Tree} (v : SplitTree rule ds a b tree)
-    (before : ℕ) (store store₁ store₂ grouping grouping₂ : List ℕ) (written : store₁ ≡ sets store (record_length * before) (encode (split_record a b 0)))
+    (before : ℕ) (store store₁ store₂ grouping grouping₂ : List ℕ) (wrote : store₁ ≡ sets store (record_length * (before + 1 - 1)) (encode (split_record a b 0)))
     (r : Visited) (told : (t : Tree) → Visits rule (same a b ∷ ds) t → Explored (before + 1) store₁ store₂ grouping grouping₂ r t) where
+  written : store₁ ≡ sets store (record_length * before) (encode (split_record a b 0))
+  written = written_here before store store₁ (encode (split_record a b 0)) wrote
+
   -- It met something,
   split-met : (n : ℕ) → r ≡ Met n → Explored before store store₂ grouping grouping₂ (Met n) tree
   split-met n q = go v

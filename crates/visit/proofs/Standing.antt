@@ -1,10 +1,10 @@
 -- The path of a visit, as its map and its pairs represent it: what each branch of a split makes of it, and what is open, which falls.
-use Prim.Native.Nat.{ℕ, zero, suc, ◌+◌, ◌*◌, ◌-◌, ◌≤◌, ◌<◌}
-use mathlib.Core.Bool.{Bool, true, false, cond, ◌||◌}
+use Prim.Native.Nat.{ℕ, zero, suc, ◌+◌, ◌*◌, ◌≤◌, ◌<◌}
+use mathlib.Core.Bool.{Bool, ◌||◌}
 use mathlib.Core.List.{List, [], ◌∷◌}
 use mathlib.Core.Path.{◌≡◌, refl, sym, ap, ap₂, fun_ext, ◌∙◌}
 use native.Mathlib.Omega.{arith}
-use borrow.Author.Tests.{eqb-true}
+use Rattle.std.specs.Prelude.{Option}
 use lib.Dec.{eqb}
 use lib.ListN.{length, get_or, set, take, replicate, length-set, length-replicate}
 use lib.Seq.{length-take-le}
@@ -19,7 +19,7 @@ use Rattle.equality.proofs.Node.{taken-apart}
 use Rattle.limit.specs.Meaning.{Limit, unlimited, up_to}
 use Rattle.limit.specs.Rule.{node_under}
 use Rattle.limit.specs.Search.{open_by}
-use Rattle.limit.specs.Scan.{limit_of}
+use Rattle.limit.specs.Scan.{limit_in}
 use Rattle.limit.proofs.Under.{split_open, under_branches}
 use Rattle.limit.proofs.Resumes.{under_takes}
 use Rattle.classes.specs.declared.Classes.{Classes}
@@ -30,7 +30,7 @@ use Rattle.marks.specs.Marks.{table_length}
 use Rattle.scan.specs.declared.Place.{Place}
 use Rattle.scan.specs.declared.Place.TheVariants.{Scan, Within, Nowhere, After}
 use Rattle.node.specs.declared.Split.{Split}
-use Rattle.scan.specs.Place.{ResumesPair, Resumes, PlaceWithin, Rises}
+use Rattle.scan.specs.Place.{ResumesPair, Resumes, PlaceWithin, Rises, HasLevel, with_level}
 use Rattle.node.specs.Found.{Markable, SplitLeaves}
 use Rattle.scan.specs.Settled.{Settled, Later}
 use Rattle.scan.proofs.Settling.{taken-number, joined_settled, same-settled, same_later, later_none, later_through}
@@ -46,8 +46,8 @@ abbrev shut_by : List ℕ → List ℕ → ℕ → ℕ → ℕ → Bool
 shut_by lots pairs count a b =
     eqb (class_of lots a) (class_of lots b) || marked lots (set_apart pairs count) (class_of lots a) (class_of lots b)
 
-pub open_by_map : ℕ → List ℕ → List ℕ → List ℕ → ℕ → ℕ
-open_by_map limit s lots pairs count = open_by (limit_of limit) (lot_count s) (conditions s) (shut_by lots pairs count)
+pub open_by_map : Option ℕ → List ℕ → List ℕ → List ℕ → ℕ → ℕ
+open_by_map limit s lots pairs count = open_by (limit_in limit) (lot_count s) (conditions s) (shut_by lots pairs count)
 
 -- ---- the path
 
@@ -69,51 +69,42 @@ within-rises s (Within c r) within = tt
 within-rises s Nowhere within = tt
 within-rises s (After x y) within = within
 
--- What a split leaves, by whether it has a condition.
-abbrev LeavesBy : Limit → ℕ → List ℕ → Split → Decisions → Bool → Type 0
-LeavesBy limit n s on ds p = Resumes limit n s (cond p (After on.a on.b) (Within on.condition on.after)) (apart on.a.0 on.b.0 ∷ ds)
+-- The condition that a split's apart branch goes on in is one of the sheet's, so it has a level;
+pub has-level : (limit : Limit) (n : ℕ) (s levels : List ℕ) (ds : Decisions) → condition_count s ≤ length levels → (p : Place) → Resumes limit n s p ds → HasLevel p levels
+has-level limit n s levels ds sized Scan w = tt
+has-level limit n s levels ds sized (Within c r) w =
+    let number = taken-number ds s c.0 (condition_at s c.0) w.condition in
+    (number.0, omega (arith, number.1, sized))
+has-level limit n s levels ds sized Nowhere w = tt
+has-level limit n s levels ds sized (After x y) w = tt
 
--- A split's condition is one of the sheet's, or 0;
-pub split-number : (limit : Limit) (n : ℕ) (s : List ℕ) (on : Split) (ds : Decisions) → SplitLeaves limit n s on ds → on.condition.0 ≤ condition_count s
-split-number limit n s on ds w = go (eqb on.condition.0 0) refl w
-  where
-    go : (p : Bool) → eqb on.condition.0 0 ≡ p → LeavesBy limit n s on ds p → on.condition.0 ≤ condition_count s
-    go true q w = omega (arith, eqb-true on.condition.0 0 q)
-    go false q w = (taken-number (apart on.a.0 on.b.0 ∷ ds) s on.condition.0 (condition_at s on.condition.0) w.condition).1
-
--- The levels of its same branch: the condition is noted, if it has one.
-abbrev pub noted_by : Split → List ℕ → ℕ → Bool → List ℕ
-noted_by on settled level p = cond p settled (set settled (on.condition.0 - 1) (level + 1))
-
--- That branch is of the next level, in which the condition is settled;
-module _ (limit : Limit) (n : ℕ) (s : List ℕ) (on : Split) (ds : Decisions) (settled : List ℕ) (level : ℕ) where
-  joined : List ℕ
+-- in the same branch, which is of the next level, it is settled;
+module _ (limit : Limit) (n : ℕ) (s : List ℕ) (on : Split) (ds : Decisions) (levels : List ℕ) (level : ℕ) (l : Settled (classes ds) s levels level)
+    (e : node_under limit n (conditions s) ds ≡ split on.a.0 on.b.0) where
+  abbrev joined : List ℕ
   joined = merged (class_of (classes ds) on.a.0) (class_of (classes ds) on.b.0) (classes ds)
 
-  settled-both : Settled (classes ds) s settled level → node_under limit n (conditions s) ds ≡ split on.a.0 on.b.0
-      → (p : Bool) → eqb on.condition.0 0 ≡ p → LeavesBy limit n s on ds p → Settled joined s (noted_by on settled level p) (level + 1) × Later settled (noted_by on settled level p) (level + 1)
-  unfolding joined
-  settled-both l e true q w = (joined_settled (classes ds) s settled on.a.0 on.b.0 level l, later_none settled (level + 1))
-  settled-both l e false q w =
+  settled-both : (p : Place) → Resumes limit n s p (apart on.a.0 on.b.0 ∷ ds)
+      → Settled joined s (with_level p (level + 1) levels) (level + 1) × Later levels (with_level p (level + 1) levels) (level + 1)
+  settled-both Scan w = (joined_settled (classes ds) s levels on.a.0 on.b.0 level l, later_none levels (level + 1))
+  settled-both (Within c r) w =
       let taken-first = sym (taken-apart ds on.a.0 on.b.0 1 (conditions s)) ∙ w.condition in
-      let here = sym (under_takes limit n (conditions s) ds on.condition.0 (condition_at s on.condition.0) taken-first) ∙ e in (
-        same-settled ds s settled on.condition.0 on.a.0 on.b.0 level l here taken-first,
-        same_later ds s settled on.condition.0 on.a.0 on.b.0 level l here taken-first,
+      let here = sym (under_takes limit n (conditions s) ds c.0 (condition_at s c.0) taken-first) ∙ e in (
+        same-settled ds s levels c.0 on.a.0 on.b.0 level l here taken-first,
+        same_later ds s levels c.0 on.a.0 on.b.0 level l here taken-first,
       )
+  settled-both Nowhere w = (joined_settled (classes ds) s levels on.a.0 on.b.0 level l, later_none levels (level + 1))
+  settled-both (After x y) w = (joined_settled (classes ds) s levels on.a.0 on.b.0 level l, later_none levels (level + 1))
 
-  module _ (cs : List ℕ) (says : cs ≡ classes ds) (l : Settled cs s settled level) (e : node_under limit n (conditions s) ds ≡ split on.a.0 on.b.0)
-      (w : SplitLeaves limit n s on ds) where
-    both : Settled joined s (noted_by on settled level (eqb on.condition.0 0)) (level + 1) × Later settled (noted_by on settled level (eqb on.condition.0 0)) (level + 1)
-    both = settled-both (rw says at l) e (eqb on.condition.0 0) refl w
+-- and whatever that branch writes, the levels above this one are later ones.
+module _ (limit : Limit) (n : ℕ) (s : List ℕ) (on : Split) (ds : Decisions) (levels : List ℕ) (level : ℕ) (cs : List ℕ) (says : cs ≡ classes ds)
+    (l : Settled cs s levels level) (e : node_under limit n (conditions s) ds ≡ split on.a.0 on.b.0) (w : SplitLeaves limit n s on ds) where
+  pub under_settled : (cs' : List ℕ) → cs' ≡ merged (class_of cs on.a.0) (class_of cs on.b.0) cs → Settled cs' s (with_level on.apart (level + 1) levels) (level + 1)
+  under_settled cs' joined' = rw joined' (rw says (settled-both limit n s on ds levels level (rw says at l) e on.apart w).0)
 
-    pub under_settled : (cs' settled₁ : List ℕ) → cs' ≡ merged (class_of cs on.a.0) (class_of cs on.b.0) cs → settled₁ ≡ noted_by on settled level (eqb on.condition.0 0)
-        → Settled cs' s settled₁ (level + 1)
-    unfolding joined
-    under_settled cs' settled₁ joined' written = rw written (rw joined' (rw says both.0))
-
-    -- and whatever that branch wrote, the levels above this one are later ones.
-    pub under_later : (settled₁ settled' : List ℕ) → settled₁ ≡ noted_by on settled level (eqb on.condition.0 0) → Later settled₁ settled' (level + 1) → Later settled settled' (level + 1)
-    under_later settled₁ settled' written later = later_through settled settled₁ settled' (level + 1) (rw written both.1) later
+  pub under_later : (levels₁ levels' : List ℕ) → levels₁ ≡ with_level on.apart (level + 1) levels → Later levels₁ levels' (level + 1) → Later levels levels' (level + 1)
+  under_later levels₁ levels' written later =
+      later_through levels levels₁ levels' (level + 1) (rw written (settled-both limit n s on ds levels level (rw says at l) e on.apart w).1) later
 
 -- With no decision no condition is settled.
 none-settled : (n m i : ℕ) → ◌≡◌ {A = ℕ} (get_or (take m (replicate n 0)) i 0) 0
@@ -132,26 +123,26 @@ start_settled cs s n m h e =
       each = λ i some. absurd (some (none-settled n m i));
     }
 
-pub start_level : (limit : ℕ) (s : List ℕ) → Accepted s → LevelWithin limit s 1 []
-start_level limit s ok = omega (arith, opens-within (limit_of limit) s ok [], levels_enough (limit_of limit))
+pub start_level : (limit : Option ℕ) (s : List ℕ) → Accepted s → LevelWithin limit s 1 []
+start_level limit s ok = omega (arith, opens-within (limit_in limit) s ok [], levels_enough (limit_in limit))
 
 -- No decision, and all the room that there is for pairs and a table.
-pub start_standing : (limit : ℕ) (s : List ℕ) → Accepted s → (map : Classes) (pairs : List ℕ) → map.lots ≡ classes []
-    → length pairs ≡ pairs_room (limit_of limit) + table_length → Standing limit s map pairs 0 []
+pub start_standing : (limit : Option ℕ) (s : List ℕ) → Accepted s → (map : Classes) (pairs : List ℕ) → map.lots ≡ classes []
+    → length pairs ≡ pairs_room (limit_in limit) + table_length → Standing limit s map pairs 0 []
 start_standing limit s ok map pairs new len =
     record {
       represents = new_represents map pairs new;
       small = tt;
-      room = omega (arith, len, opens-within (limit_of limit) s ok [], pairs_enough (limit_of limit));
+      room = omega (arith, len, opens-within (limit_in limit) s ok [], pairs_enough (limit_in limit));
       size = omega (arith, len);
     }
 
-module _ {limit : ℕ} {s : List ℕ} {map : Classes} {pairs : List ℕ} {count : ℕ} {ds : Decisions} (st : Standing limit s map pairs count ds) where
+module _ {limit : Option ℕ} {s : List ℕ} {map : Classes} {pairs : List ℕ} {count : ℕ} {ds : Decisions} (st : Standing limit s map pairs count ds) where
   -- The map and the pairs count what is open under the path.
   pub counted : open_by_map limit s map.lots pairs count ≡ open_left limit s ds
   unfolding open_by_map
   counted =
-      ap (open_by (limit_of limit) (lot_count s) (conditions s))
+      ap (open_by (limit_in limit) (lot_count s) (conditions s))
       (fun_ext
       (λ a. fun_ext
       (λ b. ap₂ ◌||◌ (ap₂ eqb (smallest_says st.represents a) (smallest_says st.represents b)) (marked-says st.represents a b))))
@@ -178,14 +169,14 @@ module _ {limit : ℕ} {s : List ℕ} {map : Classes} {pairs : List ℕ} {count 
   module _ (ok : Accepted s) (a b : ℕ) (e : rule_of limit s ds ≡ split a b) where
     pub split-small : (a ≤ most_lots) × (b ≤ most_lots)
     split-small =
-        let pair = (split_open (limit_of limit) (lot_count s) (conditions s) (conditions_in s ok) ds a b e).within in
+        let pair = (split_open (limit_in limit) (lot_count s) (conditions s) (conditions_in s ok) ds a b e).within in
         omega (arith, pair.0.high, pair.1.high, (sound s ok).header.lots)
 
     same_falls : open_left limit s (same a b ∷ ds) < open_left limit s ds
-    same_falls = (under_branches (limit_of limit) (lot_count s) (conditions s) (conditions_in s ok) ds tt a b e).same_falls
+    same_falls = (under_branches (limit_in limit) (lot_count s) (conditions s) (conditions_in s ok) ds tt a b e).same_falls
 
     apart_falls : open_left limit s (apart a b ∷ ds) < open_left limit s ds
-    apart_falls = (under_branches (limit_of limit) (lot_count s) (conditions s) (conditions_in s ok) ds tt a b e).apart_falls
+    apart_falls = (under_branches (limit_in limit) (lot_count s) (conditions s) (conditions_in s ok) ds tt a b e).apart_falls
 
     -- The same branch, by what `join` ensures;
     pub same-standing : (map' : Classes) → map'.lots ≡ merged (class_of map.lots a) (class_of map.lots b) map.lots
@@ -210,7 +201,7 @@ module _ {limit : ℕ} {s : List ℕ} {map : Classes} {pairs : List ℕ} {count 
 
     -- there is a number more,
     pub count_room : count + 1 < 4294967296
-    count_room = omega (arith, st.room, st.size, apart_falls, pairs-count (limit_of limit))
+    count_room = omega (arith, st.room, st.size, apart_falls, pairs-count (limit_in limit))
 
     -- there is room for a pair more,
     pub pair_room : 2 * count + 2 ≤ length pairs
@@ -229,12 +220,12 @@ module _ {limit : ℕ} {s : List ℕ} {map : Classes} {pairs : List ℕ} {count 
         })
 
 -- Whatever is written after the pairs, as much is open.
-pub below_same : {limit : ℕ} {s : List ℕ} {map : Classes} {pairs : List ℕ} {count : ℕ} {ds : Decisions} → Standing limit s map pairs count ds
+pub below_same : {limit : Option ℕ} {s : List ℕ} {map : Classes} {pairs : List ℕ} {count : ℕ} {ds : Decisions} → Standing limit s map pairs count ds
     → (pairs' : List ℕ) → length pairs' ≡ length pairs → Untouched pairs pairs' count → open_by_map limit s map.lots pairs' count ≡ open_by_map limit s map.lots pairs count
 below_same st pairs' len untouched = counted (below_standing st pairs' len untouched) ∙ sym (counted st)
 
 -- Less is open in each branch.
-module _ {limit : ℕ} {s : List ℕ} {map : Classes} {pairs : List ℕ} {count : ℕ} {ds : Decisions} (st : Standing limit s map pairs count ds)
+module _ {limit : Option ℕ} {s : List ℕ} {map : Classes} {pairs : List ℕ} {count : ℕ} {ds : Decisions} (st : Standing limit s map pairs count ds)
     (ok : Accepted s) (a b : ℕ) (e : rule_of limit s ds ≡ split a b) where
   pub same_less : (map' : Classes) → map'.lots ≡ merged (class_of map.lots a) (class_of map.lots b) map.lots
       → open_by_map limit s map'.lots pairs count < open_by_map limit s map.lots pairs count

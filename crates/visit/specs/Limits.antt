@@ -1,5 +1,5 @@
 -- The room that the visits have, for the contracts of the inner functions; this file states nothing of document 01. A law relates each number to another
--- (`proofs/Limits`); beside those laws only the proofs of `without_limit` and `with_limit`, which make the array of pairs, look at one.
+-- (`proofs/Limits`); beside those laws only the proofs of the two searches, which give the length of the array of pairs, look at one.
 use Rattle.std.specs.Prelude.{ℕ}
 use Rattle.limit.specs.Meaning.{Limit, unlimited, up_to}
 

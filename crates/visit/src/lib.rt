@@ -3,7 +3,7 @@
 
 ghost use Rattle.std.specs.Prelude.{◌≡◌, ◌+◌, ◌<◌, length};
 ghost use Rattle.sheet.specs.Conditions.{conditions};
-ghost use Rattle.limit.specs.Scan.{limit_of};
+ghost use Rattle.limit.specs.Scan.{limit_in};
 ghost use Rattle.marks.specs.Marks.{table_length};
 ghost use Rattle.scan.specs.Settled.{Later};
 ghost use Rattle.store.specs.Records.{capacity};
@@ -29,34 +29,7 @@ struct Stage {
     m: u16,
     before: u32,
     level: u16,
-    limit: u16,
-}
-
-impl Stage {
-    // From a split into its same branch: a record more, and the next level.
-    fn in_same(self) -> Stage
-        requires { (self.before + 1 < 4294967296) × (self.level + 1 < 65536) }
-        ensures { (result.m ≡ self.m) × (result.before ≡ self.before + 1) × (result.level ≡ self.level + 1) × (result.limit ≡ self.limit) }
-    {
-        Stage {
-            m: self.m,
-            before: self.before + 1,
-            level: self.level + 1,
-            limit: self.limit,
-        }
-    }
-
-    // From a split into its apart branch, after so many records: the level stays.
-    fn in_apart(self, before: u32) -> Stage
-        ensures { (result.m ≡ self.m) × (result.before ≡ before) × (result.level ≡ self.level) × (result.limit ≡ self.limit) }
-    {
-        Stage {
-            m: self.m,
-            before,
-            level: self.level,
-            limit: self.limit,
-        }
-    }
+    limit: Option<u16>,
 }
 
 // How a visit ended: met, or nothing met under the node, with the records written so far; or the store is full.
@@ -141,9 +114,12 @@ fn branches(
     let b = on.b;
     store::write(store, here, NodeRecord::Split(a, b, NodeNumber(0)));
     let same = map.join(a, b);
-    let up = at.in_same();
-    let c = on.condition;
-    scan::settle(levels, c, up.level);
+    let up = Stage {
+        before: at.before + 1,
+        level: at.level + 1,
+        ..at
+    };
+    scan::settle(levels, on.apart, up.level);
     let from = Place::Scan;
     let under_same = visit(sheet, same, from, count, up, pairs, grouping, store, levels);
     let Visited::Cannot(n) = under_same else {
@@ -155,8 +131,8 @@ fn branches(
     store::set_next(store, here, NodeNumber(n + 1));
     classes::set_apart(pairs, count, a, b);
     scan::clear_above(levels, at.level);
-    let at = at.in_apart(n);
-    let from = on.apart_place();
+    let at = Stage { before: n, ..at };
+    let from = on.apart;
     let count = count + 1;
     visit(sheet, map, from, count, at, pairs, grouping, store, levels)
 }
@@ -165,13 +141,13 @@ fn branches(
 pub fn start(
     sheet: &[u8],
     m: u16,
-    limit: u16,
+    limit: Option<u16>,
     pairs: &mut [u8],
     grouping: &mut [u8],
     store: &mut [u8],
 ) -> Visited
-    requires { Searchable sheet.now m grouping.old × (length pairs.old ≡ pairs_room (limit_of limit) + table_length) }
-    ensures { Explored 0 store.old store.new grouping.old grouping.new result (tree_of (limit_of limit) sheet.now) }
+    requires { Searchable sheet.now m grouping.old × (length pairs.old ≡ pairs_room (limit_in limit) + table_length) }
+    ensures { Explored 0 store.old store.new grouping.old grouping.new result (tree_of (limit_in limit) sheet.now) }
 {
     let mut levels = [0u16; LEVELS_LENGTH];
     let room = m as usize;

@@ -1,7 +1,7 @@
 -- What it changes in a merge that only conditions with terms can be left out (document 02, job 6): the merge, beside that of job 4 alone, where any could be.
 use Rattle.std.specs.Prelude.{ℕ, zero, suc, ◌+◌, ◌≤◌, ◌<◌, cond, List, ◌↔◌, ◌≢◌, ◌≡◌, eqb, length}
 use Rattle.buffers.specs.Written.{written}
-use Rattle.sheet.specs.declared.Verdict.TheVariants.{Refuses}
+use Rattle.sheet.specs.Verdicts.{Refuses}
 use Rattle.sheet.specs.Format.{most_conditions, condition_count, head_at}
 use Rattle.sheet.specs.Checks.{Accepted}
 use Rattle.sheet.specs.Answers.{refused, answered}

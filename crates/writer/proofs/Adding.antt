@@ -1,7 +1,7 @@
 -- A loop along a chain of a sheet that adds its terms: those that are left, added to what there is now, come to all of them added at the start.
 use Prim.Native.Nat.{ℕ, suc, ◌≤◌}
 use mathlib.Core.List.{List, [], ◌∷◌}
-use mathlib.Core.Path.{◌≡◌, refl, sym, ap, ◌∙◌}
+use mathlib.Core.Path.{◌≡◌, sym, ap, ◌∙◌}
 use native.Mathlib.Omega.{arith}
 use lib.ListN.{length}
 use Rattle.sheet.specs.Format.{next_at}
@@ -18,9 +18,6 @@ pub record Adding (s : List ℕ) (head : ℕ) (start : Draft) (r : ℕ) (d : Dra
   pub rest : with_terms (terms_from s r) d ≡ with_terms (terms_from s head) start
   pub room : RoomFor 0 (length (terms_from s r)) d
   pub sized : length d.bytes ≡ length start.bytes
-
-pub adding_start : (s : List ℕ) (head : ℕ) (start : Draft) → OnChain s head → RoomFor 0 (length (terms_from s head)) start → Adding s head start head start
-adding_start s head start on room = record { on = on; rest = refl; room = room; sized = refl }
 
 module _ {s : List ℕ} {head : ℕ} {start : Draft} {r : ℕ} {d : Draft} (l : Adding s head start r d) where
   module _ (ok : Accepted s) (least : 1 ≤ r) where

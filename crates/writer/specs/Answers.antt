@@ -1,14 +1,12 @@
 -- What writers of sheets answer, and what they leave in the output (document 02, job 1).
-use Rattle.std.specs.Prelude.{ℕ, List, take}
+use Rattle.std.specs.Prelude.{ℕ, List, Result, take}
 use Rattle.buffers.specs.Written.{written}
-use Rattle.sheet.specs.Answers.{Answer, refused, answered}
-use Rattle.writer.specs.declared.WriteAnswer.{WriteAnswer}
-use Rattle.writer.specs.declared.WriteAnswer.TheVariants.{Written, Refused}
+use Rattle.sheet.specs.declared.refusal.Refusal.{Refusal}
+use Rattle.sheet.specs.Answers.{Answer, refused, answered, result_answer}
 
 -- "each answers the length it wrote"
-abbrev pub written_answer : WriteAnswer → Answer
-written_answer (Written length) = answered length 0 0
-written_answer (Refused check place) = refused check place
+abbrev pub written_answer : Result ℕ Refusal → Answer
+written_answer = result_answer (λ length. answered length 0 0)
 
 -- The output afterwards, where `bytes` are to be written. "Output past the packed length is untouched, by later sheet writers too"; refused: "nothing is
 -- written".

@@ -10,14 +10,6 @@ ghost use Rattle.writer.specs.Drafts.{draft, begun, with_condition, with_term, w
 
 use sheet::{Condition, Lot, Record};
 
-// What a writer of sheets answers: the length that it wrote, or a refusal, on which nothing is written. A refusal here needs no more than its check and its
-// place; a writer whose refusals have to say more answers by an enum of its own.
-#[derive(Clone, Copy)]
-pub enum WriteAnswer {
-    Written { length: u32 },
-    Refused { check: u32, place: u32 },
-}
-
 // Where a writer stands in the bytes that it writes.
 #[derive(Clone, Copy)]
 pub struct Writer {
@@ -26,7 +18,7 @@ pub struct Writer {
     // Where the next record goes, and its number.
     pub place: usize,
     pub number: Record,
-    // Where the number of the next term's record goes: the latest condition's head, or the next of its last record. Before the first condition, 0.
+    // Where the number of the next term's record goes: the latest condition's head, or the next of its last record. Before the first condition, 0, as `draft` has it.
     pub link: usize,
 }
 

@@ -6,7 +6,7 @@ use mathlib.Core.Path.{◌≡◌, refl, ap, fun_ext}
 use native.Mathlib.Omega.{arith}
 use borrow.Author.Tests.{le-leb}
 use Rattle.buffers.specs.Lists.{All}
-use Rattle.sheet.specs.declared.Verdict.{Verdict}
+use Rattle.sheet.specs.Verdicts.{Verdict}
 use Rattle.sheet.specs.Format.{lowest_lot, lot_count, record_count, vacant, first_lot_at, second_lot_at}
 use Rattle.sheet.specs.Checks.{lot_in_range, well_formed, check5, sheet_checks_with}
 use Rattle.sheet.proofs.Verdicts.{lowest_agrees}

@@ -5,8 +5,7 @@ use mathlib.Core.List.{List, [], ◌∷◌}
 use mathlib.Core.Path.{◌≡◌, refl, ap}
 use lib.ListN.{take}
 use Rattle.buffers.specs.Lists.{All}
-use Rattle.sheet.specs.declared.Verdict.{Verdict}
-use Rattle.sheet.specs.declared.Verdict.TheVariants.{Passes, Refuses}
+use Rattle.sheet.specs.Verdicts.{Verdict, Passes, Refuses}
 use Rattle.sheet.specs.Checks.{Accepted, sheet_verdict_with}
 use Rattle.sheet.specs.Conditions.{Term, BothLots, conditions}
 use Rattle.sheet.specs.Answers.{answered, answer_of, read_answer, read_answer_with}

@@ -1,12 +1,8 @@
-use Prim.Native.Nat.{◌-◌, ◌≤◌}
+use mathlib.Core.List.{◌++◌, map}
 use mathlib.Core.Path.{◌≡◌}
-use lib.ListN.{length}
+use lib.ListN.{take, drop}
 use Rattle.equality.proofs.Classes.{joined_to}
-use Rattle.classes.proofs.Rewriting.{rewritten}
 use Rattle.classes.proofs.join_entries.Given as goal
 
-abbrev pub invariant-loop-i : goal.invariant-loop-i
-invariant-loop-i l = (l.i ≤ length l.initial.lots) × (length l.lots ≡ length l.initial.lots) × (l.lots ≡ rewritten (joined_to l.x l.y) l.i l.initial.lots)
-
-abbrev pub decreases-loop-i : goal.decreases-loop-i
-decreases-loop-i l = length l.initial.lots - l.i
+abbrev pub invariant-loop-lot : goal.invariant-loop-lot
+invariant-loop-lot l = l.lots ≡ map (joined_to l.x l.y) (take l.lot-index l.initial.lots) ++ drop l.lot-index l.initial.lots

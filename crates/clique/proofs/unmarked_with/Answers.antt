@@ -1,51 +1,38 @@
-use Prim.Native.Nat.{ℕ, suc}
-use mathlib.Core.Bool.{Bool, cond}
-use mathlib.Core.Path.{sym, ap, ◌∙◌}
+use Prim.Native.Nat.{ℕ, ◌+◌, ◌<◌}
+use mathlib.Core.Bool.{Bool, true, false}
+use mathlib.Core.List.{List}
+use mathlib.Core.Logic.{◌≢◌}
+use mathlib.Core.Path.{◌≡◌, ◌∙◌}
 use native.Mathlib.Numerals.{add-one}
 use native.Mathlib.Omega.{arith}
-use borrow.Author.Tests.{eq-eqb, ne_eqb, lt-ltb, le-ltb, not-true}
-use Rattle.equality.specs.Node.{split}
+use borrow.Author.Tests.{eq-eqb, ne_eqb}
+use Rattle.equality.specs.Node.{class_of, Node, split}
 use Rattle.limit.specs.Rule.{split_with}
 use Rattle.limit.specs.Scan.{classes_from}
 use Rattle.limit.proofs.Scan.{with_class, with_other, with_end}
-use Rattle.marks.specs.Marks.{mark_at}
 use Rattle.clique.proofs.unmarked_with.Goals as goal
-use Rattle.clique.proofs.unmarked_with.Goals.{then-class-y+else-not-is_marked, else-class-y}
+
+module _ (marks : ℕ → ℕ → Bool) (lots : List ℕ) (end x y : ℕ) (h : y < end) where
+  -- A class is the one found, where it isn't marked;
+  unmarked : class_of lots y ≡ y → marks x (class_of lots y) ≡ false → (others : Node) → split_with marks x (classes_from lots end y) others ≡ split x (class_of lots y)
+  unmarked own e others = let e' : marks x y ≡ false = rw own at e in with_class lots marks end x y others h (eq-eqb _ _ own) ∙ rw (e', own)
+
+  -- else it is passed,
+  marked : class_of lots y ≡ y → marks x (class_of lots y) ≡ true → (others : Node) → split_with marks x (classes_from lots end y) others ≡ split_with marks x (classes_from lots end (y + 1)) others
+  marked own e others = let e' : marks x y ≡ true = rw own at e in with_class lots marks end x y others h (eq-eqb _ _ own) ∙ rw (e', add-one y)
+
+  -- and so is any lot that is the smallest of no class.
+  passed : class_of lots y ≢ y → (others : Node) → split_with marks x (classes_from lots end y) others ≡ split_with marks x (classes_from lots end (y + 1)) others
+  passed other others = with_other lots marks end x y others h (ne_eqb _ _ other) ∙ rw (add-one y)
 
 pub returns-then-not-is_marked : goal.returns-then-not-is_marked
 returns-then-not-is_marked c =
-    λ others.
-    let args = c.args in
-    let y = c.loop-y.y in
-    c.loop-y.invariant others
-    ∙ with_class args.lots.now (mark_at args.bytes.now args.table) args.end args.x y others (omega arith) (eq-eqb _ _ c.if-class-y.true)
-    ∙ ap (λ (p : Bool).
-    cond p (split_with (mark_at args.bytes.now args.table) args.x (classes_from args.lots.now args.end (suc y)) others) (split args.x y))
-    (ap (mark_at args.bytes.now args.table args.x) (sym c.if-class-y.true) ∙ sym c.is_marked.ensures ∙ not-true _ c.if-not-is_marked.true-raw)
-    ∙ sym (ap (λ (p : Bool). cond p (split args.x y) others) (lt-ltb y args.end (omega arith)))
+    grind (arith, unmarked)
 
 pub loop-y-preserved : goal.loop-y-preserved
 loop-y-preserved c =
-    let args = c.args in
-    let marks = mark_at args.bytes.now args.table in
-    let y = c.loop-y.y in
-    elim c.if-class-y.branch [
-      | then-class-y+else-not-is_marked w ↦ λ others.
-          c.loop-y.invariant others
-          ∙ with_class args.lots.now marks args.end args.x y others (omega arith) (eq-eqb _ _ w.if-class-y.true)
-          ∙ ap (λ (p : Bool). cond p (split_with marks args.x (classes_from args.lots.now args.end (suc y)) others) (split args.x y))
-          (ap (marks args.x) (sym w.if-class-y.true) ∙ sym w.is_marked.ensures ∙ w.if-not-is_marked.false)
-          ∙ ap (λ (k : ℕ). split_with marks args.x (classes_from args.lots.now args.end k) others) (sym (add-one y))
-      | else-class-y w ↦ λ others.
-          c.loop-y.invariant others
-          ∙ with_other args.lots.now marks args.end args.x y others (omega arith) (ne_eqb _ _ w.if-class-y.false)
-          ∙ ap (λ (k : ℕ). split_with marks args.x (classes_from args.lots.now args.end k) others) (sym (add-one y))
-    ]
+    grind (arith, marked, passed)
 
 pub returns : goal.returns
 returns c =
-    λ others.
-    let args = c.args in
-    c.loop-y.invariant others
-    ∙ with_end args.lots.now (mark_at args.bytes.now args.table) args.end args.x c.loop-y.y others (omega arith)
-    ∙ sym (ap (λ (p : Bool). cond p (split args.x args.end) others) (le-ltb args.end args.end (omega arith)))
+    grind (arith, with_end)

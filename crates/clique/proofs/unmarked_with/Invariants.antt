@@ -1,5 +1,4 @@
--- `clique::unmarked_with`: the classes from lot y on come to what all of them do; the lots that are left fall.
-use Prim.Native.Nat.{◌-◌}
+-- `clique::unmarked_with`: the classes from lot y on come to what all do.
 use mathlib.Core.Path.{◌≡◌}
 use Rattle.equality.specs.Node.{Node}
 use Rattle.limit.specs.Rule.{split_with}
@@ -9,6 +8,3 @@ use Rattle.clique.proofs.unmarked_with.Given as goal
 
 abbrev pub invariant-loop-y : goal.invariant-loop-y
 invariant-loop-y l = (others : Node) → split_with (mark_at l.bytes l.table) l.x (classes_from l.lots l.end l.from) others ≡ split_with (mark_at l.bytes l.table) l.x (classes_from l.lots l.end l.y) others
-
-abbrev pub decreases-loop-y : goal.decreases-loop-y
-decreases-loop-y l = l.end - l.y

@@ -10,21 +10,8 @@ use Rattle.sheet.proofs.Accepted.{Sound, sound}
 use Rattle.sheet.proofs.ChainEnds.{head-on}
 use Rattle.evaluator.specs.Numbers.{number_at}
 use Rattle.reassignment.specs.Count.{unmet_one}
-use Rattle.reassignment.proofs.Counting.{one_most}
-use Rattle.reassignment.proofs.Summing.{summing_start, summing_next, summed, unmet_adds}
+use Rattle.reassignment.proofs.Summing.{summing_next, summed, unmet_adds}
 use Rattle.counter.proofs.count_all.Goals as goal
-
-pub loop-c-init : goal.loop-c-init
-loop-c-init c =
-    summing_start _ _
-
-pub overflow_add-c : goal.overflow_add-c
-overflow_add-c c =
-    let s : List ℕ = c.args.sheet.now in
-    let facts : Sound s = sound s c.requires.sheet.accepted in
-    -- The next condition is one of the sheet's.
-    let below : c.loop-c.c < condition_count s = omega (arith, c.loop-c-test.true, c.requires.sheet.counted) in
-    omega (arith, below, facts.header.conditions)
 
 pub head_at-head-requires : goal.head_at-head-requires
 head_at-head-requires c =
@@ -42,23 +29,6 @@ unmet_one-count-requires c =
       c.requires,
       rw c.head_at-head.ensures (head-on s c.requires.sheet.accepted (c.loop-c.c + 1) (omega arith) (omega (arith, below))),
     )
-
-pub overflow_add-count : goal.overflow_add-count
-overflow_add-count c =
-    let s : List ℕ = c.args.sheet.now in
-    let assigned : ℕ → ℕ = number_at c.args.numbers.now in
-    let facts : Sound s = sound s c.requires.sheet.accepted in
-    -- The next condition is one of the sheet's.
-    let below : c.loop-c.c < condition_count s = omega (arith, c.loop-c-test.true, c.requires.sheet.counted) in
-    -- What `unmet_one` answers is what the next condition counts for.
-    let answer : c.unmet_one-count.result ≡ unmet_one assigned (condition_at s (suc c.loop-c.c)) = c.unmet_one-count.ensures
-    ∙ ap (λ (r : ℕ). unmet_one assigned (terms_from s r)) c.head_at-head.ensures
-    ∙ ap (λ (n : ℕ). unmet_one assigned (condition_at s n)) (add-one c.loop-c.c) in
-    omega (arith, answer, one_most assigned (condition_at s (suc c.loop-c.c)), c.loop-c.invariant.most, below, facts.header.conditions)
-
-pub loop-c-smaller : goal.loop-c-smaller
-loop-c-smaller c =
-    omega (arith, c.loop-c-test.true)
 
 pub loop-c-preserved : goal.loop-c-preserved
 loop-c-preserved c =

@@ -1,5 +1,4 @@
 -- `counter::count_all`: the conditions that the loop has passed are added up.
-use Prim.Native.Nat.{◌-◌}
 use Rattle.evaluator.specs.Numbers.{number_at}
 use Rattle.reassignment.specs.Count.{unmet_count}
 use Rattle.reassignment.proofs.Summing.{Summing}
@@ -7,6 +6,3 @@ use Rattle.counter.proofs.count_all.Given as goal
 
 abbrev pub invariant-loop-c : goal.invariant-loop-c
 invariant-loop-c l = Summing (unmet_count (number_at l.numbers)) l.sheet l.c l.count
-
-abbrev pub decreases-loop-c : goal.decreases-loop-c
-decreases-loop-c l = l.m - l.c

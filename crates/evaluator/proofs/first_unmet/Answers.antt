@@ -8,25 +8,13 @@ use Rattle.sheet.specs.Format.{condition_count}
 use Rattle.sheet.specs.Conditions.{condition_at, terms_from}
 use Rattle.sheet.proofs.Accepted.{Sound, sound}
 use Rattle.sheet.proofs.ChainEnds.{head-on}
-use Rattle.sheet.proofs.Scanning.{scanning_start, found_here, scanning_next, none_found}
+use Rattle.sheet.proofs.Scanning.{found_here, scanning_next, none_found}
 use Rattle.equality.specs.Meaning.{meets_condition}
-use Rattle.evaluator.specs.declared.Evaluation.TheVariants.{Unmet}
+use Rattle.std.specs.Prelude.{Some}
 use Rattle.evaluator.specs.Answers.{unmet_or}
 use Rattle.evaluator.specs.Numbers.{number_at}
 use Rattle.evaluator.proofs.Scanning.{lowest_goes}
 use Rattle.evaluator.proofs.first_unmet.Goals as goal
-
-pub loop-c-init : goal.loop-c-init
-loop-c-init c =
-    scanning_start _ _
-
-pub overflow_add-c : goal.overflow_add-c
-overflow_add-c c =
-    let s : List ℕ = c.args.sheet.now in
-    let facts : Sound s = sound s c.requires.sheet.accepted in
-    -- The next condition is one of the sheet's.
-    let below : c.loop-c.c < condition_count s = omega (arith, c.loop-c-test.true, c.requires.sheet.counted) in
-    omega (arith, below, facts.header.conditions)
 
 pub head_at-head-requires : goal.head_at-head-requires
 head_at-head-requires c =
@@ -53,11 +41,7 @@ returns-then-not-is_met c =
     ∙ ap (λ (r : ℕ). meets_condition assigned (terms_from s r)) c.head_at-head.ensures
     ∙ ap (λ (n : ℕ). meets_condition assigned (condition_at s n)) (add-one c.loop-c.c) in
     let lowest = found_here (lowest_goes assigned) c.loop-c.invariant below (sym answer ∙ c.if-not-is_met.true) in
-    ap (λ (n : ℕ). Unmet (record { 0 = n })) (add-one c.loop-c.c) ∙ ap unmet_or (sym lowest)
-
-pub loop-c-smaller : goal.loop-c-smaller
-loop-c-smaller c =
-    omega (arith, c.loop-c-test.true)
+    ap (λ (n : ℕ). Some (record { 0 = n })) (add-one c.loop-c.c) ∙ ap unmet_or (sym lowest)
 
 pub loop-c-preserved : goal.loop-c-preserved
 loop-c-preserved c =

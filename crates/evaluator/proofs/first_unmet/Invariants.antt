@@ -1,4 +1,3 @@
-use Prim.Native.Nat.{◌-◌}
 use Rattle.sheet.proofs.Scanning.{Scanning}
 use Rattle.equality.specs.Evaluator.{lowest_unmet}
 use Rattle.evaluator.specs.Numbers.{number_at}
@@ -6,6 +5,3 @@ use Rattle.evaluator.proofs.first_unmet.Given as goal
 
 abbrev pub invariant-loop-c : goal.invariant-loop-c
 invariant-loop-c l = Scanning (lowest_unmet (number_at l.numbers)) l.sheet l.c
-
-abbrev pub decreases-loop-c : goal.decreases-loop-c
-decreases-loop-c l = l.m - l.c

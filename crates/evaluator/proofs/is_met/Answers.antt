@@ -2,7 +2,7 @@
 -- with no term is a withdrawn condition's, which is met.
 use mathlib.Core.Bool.{Bool, true, false, ◌||◌, or-true, or-false}
 use mathlib.Core.List.{List}
-use mathlib.Core.Path.{◌≡◌, refl, sym, ap, ◌∙◌}
+use mathlib.Core.Path.{◌≡◌, sym, ap, ◌∙◌}
 use Prim.Native.Nat.{ℕ, ◌≤◌}
 use native.Mathlib.Omega.{arith}
 use lib.Dec.{eqb}
@@ -15,7 +15,7 @@ use Rattle.sheet.proofs.Accepted.{has_record, sound}
 use Rattle.sheet.proofs.ChainEnds.{rest_shorter}
 use Rattle.equality.specs.Meaning.{any_term, holds, meets_condition}
 use Rattle.equality.proofs.Withdrawn.{chain_some}
-use Rattle.equality.proofs.Passing.{passing_start, found, passing_next, ended}
+use Rattle.equality.proofs.Passing.{found, passing_next, ended}
 use Rattle.evaluator.specs.Numbers.{number_at}
 use Rattle.evaluator.proofs.FirstTrue.{before_first_true, not-withdrawn, no_further, first_true}
 use Rattle.evaluator.proofs.Lots.{lots_numbered}
@@ -52,10 +52,6 @@ leaves_at_first_true c =
     first_true (number_at c.args.numbers.now) c.loop-at.invariant.0 c.requires.0.sheet.accepted (omega (arith, c.loop-at-test.true)) (left_at_true c)
 
 -- ---- the answers
-
-pub loop-at-init : goal.loop-at-init
-loop-at-init c =
-    (passing_start _ _ _ c.requires.1, refl)
 
 pub term_at-t-requires : goal.term_at-t-requires
 term_at-t-requires c =

@@ -26,7 +26,7 @@ use Rattle.leaves.proofs.Grounds.{stands, terms_agree, ground-terms}
 use Rattle.leaves.proofs.ground_passes.Goals as goal
 
 -- The condition is one of the sheet's, and so is its head.
-module _ (s : List ℕ) (m number : ℕ) (can : HasConditions s m) (least : 1 ≤ number) (most : number ≤ m) where
+module _ {s : List ℕ} {m : ℕ} (number : ℕ) (can : HasConditions s m) (least : 1 ≤ number) (most : number ≤ m) where
   counted : number ≤ condition_count s
   counted = omega (arith, can.counted)
 
@@ -34,13 +34,13 @@ module _ (s : List ℕ) (m number : ℕ) (can : HasConditions s m) (least : 1 �
   head_within = head-on s can.accepted number least counted
 
   -- A condition with no term is withdrawn, and no ground;
-  none : (ds : Decisions) (head : ℕ) → head ≡ head_at s number → head ≡ 0 → ground_fails ds (named s number) ≡ true
-  none ds head head_is zero =
+  none : (ds : Decisions) {head : ℕ} → head ≡ head_at s number → head ≡ 0 → ground_fails ds (named s number) ≡ true
+  none ds head_is zero =
       ground-terms ds s can.accepted number least counted
       ∙ rw (eq-eqb (head_at s number) 0 (sym head_is ∙ zero))
 
   -- of another the terms that are left of the chain decide.
-  module _ (path maps levels : List ℕ) (depth : ℕ) (w : Walkable path maps levels depth) (lots : List ℕ) (e : lots ≡ row maps (level_under levels depth)) where
+  module _ {path maps levels : List ℕ} {depth : ℕ} (w : Walkable path maps levels depth) {lots : List ℕ} (e : lots ≡ row maps (level_under levels depth)) where
     -- The decisions of the path.
     abbrev ds : Decisions
     ds = decided path depth
@@ -52,7 +52,7 @@ module _ (s : List ℕ) (m number : ℕ) (can : HasConditions s m) (least : 1 �
     is_map : ClassMap lots
     is_map = subst ClassMap (sym map_is) (class_map _)
 
-    module _ (head : ℕ) (head_is : head ≡ head_at s number) (some : head ≡ 0 → ⊥) (at : ℕ) (on : OnChain s at)
+    module _ {head : ℕ} (head_is : head ≡ head_at s number) (some : head ≡ 0 → ⊥) {at : ℕ} (on : OnChain s at)
         (rest : any_term (allows lots (marked lots ds)) (terms_from s head) ≡ any_term (allows lots (marked lots ds)) (terms_from s at)) where
       left_over : any_term (stands ds) (terms_from s at) ≡ ground_fails ds (named s number)
       left_over =
@@ -89,47 +89,41 @@ top-lots-requires c =
 
 pub head_at-head-requires : goal.head_at-head-requires
 head_at-head-requires c =
-    omega (arith, c.requires.1, counted c.args.sheet.now c.args.m c.args.c.0 c.requires.0 c.requires.1 c.requires.2, (sound c.args.sheet.now c.requires.0.accepted).header.whole)
+    omega (arith, c.requires.1, counted c.args.c.0 c.requires.0 c.requires.1 c.requires.2, (sound c.args.sheet.now c.requires.0.accepted).header.whole)
 
 pub past_false-at-requires : goal.past_false-at-requires
 past_false-at-requires c =
     let map =
-    is_map c.args.sheet.now c.args.m c.args.c.0 c.requires.0 c.requires.1 c.requires.2 c.args.path.now c.args.maps.now c.args.levels.now c.args.depth c.requires.3
-    c.top-lots.result.now c.top-lots.ensures in
-    (c.requires.0, c.requires.3.within, map, rw c.head_at-head.ensures (head_within c.args.sheet.now c.args.m c.args.c.0 c.requires.0 c.requires.1 c.requires.2))
+    is_map c.args.c.0 c.requires.0 c.requires.1 c.requires.2 c.requires.3 c.top-lots.ensures in
+    (c.requires.0, c.requires.3.within, map, rw c.head_at-head.ensures (head_within c.args.c.0 c.requires.0 c.requires.1 c.requires.2))
 
 pub returns-then-head-eq0 : goal.returns-then-head-eq0
 returns-then-head-eq0 c = record {
   passes = sym (ap not
-      (none c.args.sheet.now c.args.m c.args.c.0 c.requires.0 c.requires.1 c.requires.2 (decided c.args.path.now c.args.depth)
-      c.head_at-head.result.0 c.head_at-head.ensures c.if-head-eq0.true));
+      (none c.args.c.0 c.requires.0 c.requires.1 c.requires.2 (decided c.args.path.now c.args.depth) c.head_at-head.ensures c.if-head-eq0.true));
 }
 
 pub returns-then-at-eq0 : goal.returns-then-at-eq0
 returns-then-at-eq0 c = record {
-  passes = over c.args.sheet.now c.args.m c.args.c.0 c.requires.0 c.requires.1 c.requires.2 c.args.path.now c.args.maps.now c.args.levels.now c.args.depth c.requires.3
-      c.top-lots.result.now c.top-lots.ensures c.head_at-head.result.0 c.head_at-head.ensures c.if-head-eq0.false
-      c.past_false-at.result.0 c.past_false-at.ensures.on c.past_false-at.ensures.rest c.if-at-eq0.true;
+  passes = over c.args.c.0 c.requires.0 c.requires.1 c.requires.2 c.requires.3 c.top-lots.ensures c.head_at-head.ensures c.if-head-eq0.false
+      c.past_false-at.ensures.on c.past_false-at.ensures.rest c.if-at-eq0.true;
 }
 
 pub stamp-requires : goal.stamp-requires
 stamp-requires c =
     let map =
-    is_map c.args.sheet.now c.args.m c.args.c.0 c.requires.0 c.requires.1 c.requires.2 c.args.path.now c.args.maps.now c.args.levels.now c.args.depth c.requires.3
-    c.top-lots.result.now c.top-lots.ensures in
+    is_map c.args.c.0 c.requires.0 c.requires.1 c.requires.2 c.requires.3 c.top-lots.ensures in
     (c.requires.4, c.requires.3.within, map)
 
 pub all_false-requires : goal.all_false-requires
 all_false-requires c =
     let map =
-    is_map c.args.sheet.now c.args.m c.args.c.0 c.requires.0 c.requires.1 c.requires.2 c.args.path.now c.args.maps.now c.args.levels.now c.args.depth c.requires.3
-    c.top-lots.result.now c.top-lots.ensures in
+    is_map c.args.c.0 c.requires.0 c.requires.1 c.requires.2 c.requires.3 c.top-lots.ensures in
     (c.requires.0, map, omega (arith, c.stamp.auto.table, c.requires.4), c.past_false-at.ensures.on)
 
 pub returns : goal.returns
 returns c = record {
   passes = c.all_false.ensures
-      ∙ tested c.args.sheet.now c.args.m c.args.c.0 c.requires.0 c.requires.1 c.requires.2 c.args.path.now c.args.maps.now c.args.levels.now c.args.depth c.requires.3
-      c.top-lots.result.now c.top-lots.ensures c.head_at-head.result.0 c.head_at-head.ensures c.if-head-eq0.false
-      c.past_false-at.result.0 c.past_false-at.ensures.on c.past_false-at.ensures.rest c.stamp.new.table c.stamp.ensures;
+      ∙ tested c.args.c.0 c.requires.0 c.requires.1 c.requires.2 c.requires.3 c.top-lots.ensures c.head_at-head.ensures c.if-head-eq0.false
+      c.past_false-at.ensures.on c.past_false-at.ensures.rest c.stamp.new.table c.stamp.ensures;
 }

@@ -5,7 +5,7 @@ use Rattle.levels.proofs.push.Goals as goal
 pub join-next-requires : goal.join-next-requires
 join-next-requires c =
     let w = c.requires.0 in
-    (w.rows, top_level w, c.requires.3, c.requires.4, top_room w c.args.split.a.0 c.args.split.b.0 c.requires.3 c.requires.4)
+    rw c.from-level.ensures (w.rows, top_level w, c.requires.3, c.requires.4, top_room w c.args.split.a.0 c.args.split.b.0 c.requires.3 c.requires.4)
 
 pub returns-clause-walkable : goal.returns-clause-walkable
 returns-clause-walkable c =
@@ -13,4 +13,4 @@ returns-clause-walkable c =
     let next = c.join-next in
     walkable_push c.requires.0 c.requires.1 c.requires.2 c.args.split c.requires.3 c.requires.4
     on_top.new.path next.new.maps on_top.auto.path next.auto.maps next.result
-    next.ensures.level next.ensures.next next.ensures.others on_top.result on_top.ensures.depth on_top.ensures.path
+    (rw c.from-level.ensures at next.ensures.level) (rw c.from-level.ensures at next.ensures.next) (rw c.from-level.ensures at next.ensures.others) on_top.result on_top.ensures.depth on_top.ensures.path

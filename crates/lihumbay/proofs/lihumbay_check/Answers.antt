@@ -9,4 +9,4 @@ pub returns : goal.returns
 returns c =
     let start = c.args in
     let s = start.sheet.now in
-    let list = start.list.now in record { answer = c.of_check.ensures ∙ ap numbers_of c.check.ensures.answer; passed = rw c.of_check.ensures (zero_passed unlimited s list c.check.result c.check.ensures.answer c.check.ensures.passed); meaning = rw c.of_check.ensures (zero_means unlimited s list _ c.check.result c.check.ensures.answer c.check.ensures.meaning) }
+    let list = start.list.now in record { answer = c.from.ensures ∙ ap numbers_of c.check.ensures.answer; passed = rw c.from.ensures (zero_passed unlimited s list c.check.result c.check.ensures.answer c.check.ensures.passed); meaning = rw c.from.ensures (zero_means unlimited s list _ c.check.result c.check.ensures.answer c.check.ensures.meaning) }

@@ -10,4 +10,4 @@ returns c =
     let start = c.args in
     let s = start.sheet.now in
     let list = start.list.now in
-    let limit = up_to start.limit in record { answer = c.of_check.ensures ∙ ap numbers_of c.check_limited.ensures.answer; passed = rw c.of_check.ensures (zero_passed limit s list c.check_limited.result c.check_limited.ensures.answer c.check_limited.ensures.passed); meaning = rw c.of_check.ensures (zero_means limit s list _ c.check_limited.result c.check_limited.ensures.answer c.check_limited.ensures.meaning) }
+    let limit = up_to start.limit in record { answer = c.from.ensures ∙ ap numbers_of c.check_limited.ensures.answer; passed = rw c.from.ensures (zero_passed limit s list c.check_limited.result c.check_limited.ensures.answer c.check_limited.ensures.passed); meaning = rw c.from.ensures (zero_means limit s list _ c.check_limited.result c.check_limited.ensures.answer c.check_limited.ensures.meaning) }

@@ -7,4 +7,4 @@ use Rattle.lihumbay.proofs.lihumbay_count_unmet.Goals as goal
 
 pub returns : goal.returns
 returns c =
-    let start = c.args in record { answer = c.of_counting.ensures ∙ ap numbers_of c.count_unmet.ensures.answer; meaning = rw c.of_counting.ensures (unmet_counted start.sheet.now start.grouping.now (counting_answer c.count_unmet.result) c.count_unmet.ensures.answer c.count_unmet.ensures.meaning) }
+    let start = c.args in record { answer = c.from.ensures ∙ ap numbers_of c.count_unmet.ensures.answer; meaning = rw c.from.ensures (unmet_counted start.sheet.now start.grouping.now (counting_answer c.count_unmet.result) c.count_unmet.ensures.answer c.count_unmet.ensures.meaning) }

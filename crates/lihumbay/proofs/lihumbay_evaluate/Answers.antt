@@ -7,4 +7,4 @@ use Rattle.lihumbay.proofs.lihumbay_evaluate.Goals as goal
 
 pub returns : goal.returns
 returns c =
-    let start = c.args in record { answer = c.of_evaluation.ensures ∙ ap numbers_of c.evaluate.ensures.answer; meaning = rw c.of_evaluation.ensures (first_unmet start.sheet.now start.grouping.now (evaluation_answer c.evaluate.result) c.evaluate.ensures.answer c.evaluate.ensures.meaning) }
+    let start = c.args in record { answer = c.from.ensures ∙ ap numbers_of c.evaluate.ensures.answer; meaning = rw c.from.ensures (first_unmet start.sheet.now start.grouping.now (evaluation_answer c.evaluate.result) c.evaluate.ensures.answer c.evaluate.ensures.meaning) }

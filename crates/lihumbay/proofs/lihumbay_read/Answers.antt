@@ -6,4 +6,4 @@ use Rattle.lihumbay.proofs.lihumbay_read.Goals as goal
 
 pub returns : goal.returns
 returns c =
-    record { answer = c.of_reading.ensures ∙ ap numbers_of c.read.ensures; accepted = rw c.of_reading.ensures (zero_exactly c.args.sheet.now c.read.result c.read.ensures) }
+    record { answer = c.from.ensures ∙ ap numbers_of c.read.ensures; accepted = rw c.from.ensures (zero_exactly c.args.sheet.now c.read.result c.read.ensures) }

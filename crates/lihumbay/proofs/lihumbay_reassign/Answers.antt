@@ -12,8 +12,8 @@ returns c =
     let grouping = args.grouping.now in
     let grouping' = c.reassign.new.grouping in
     let a = counting_answer c.reassign.result in record {
-      answer = c.of_counting.ensures ∙ ap numbers_of c.reassign.ensures.answer;
+      answer = c.from.ensures ∙ ap numbers_of c.reassign.ensures.answer;
       grouping = c.reassign.ensures.grouping;
-      counted = rw c.of_counting.ensures (zero_counted s grouping args.count args.lot args.value grouping' a c.reassign.ensures.answer c.reassign.ensures.counted);
-      right = rw c.of_counting.ensures (right_accepted s grouping args.count args.lot args.value grouping' a c.reassign.ensures.counted c.reassign.ensures.right);
+      counted = rw c.from.ensures (zero_counted s grouping args.count args.lot args.value grouping' a c.reassign.ensures.answer c.reassign.ensures.counted);
+      right = rw c.from.ensures (right_accepted s grouping args.count args.lot args.value grouping' a c.reassign.ensures.counted c.reassign.ensures.right);
     }

@@ -16,9 +16,9 @@ returns c =
     let out' = c.repack.new.out in
     let a = written_answer c.repack.result in
     let first = repack_first s begin.out.now a c.repack.ensures.answer in record {
-      answer = c.of_written.ensures ∙ ap numbers_of c.repack.ensures.answer;
+      answer = c.from.ensures ∙ ap numbers_of c.repack.ensures.answer;
       output = c.repack.ensures.output;
-      says = rw c.of_written.ensures (zero_written (λ (w : List ℕ). Alike w s) out' a first c.repack.ensures.says);
-      again = rw c.of_written.ensures (zero_written (λ (w : List ℕ). repacked w ≡ w) out' a first c.repack.ensures.again);
-      alike = rw c.of_written.ensures (zero_written (λ (w : List ℕ). ServedAlike w s) out' a first c.repack.ensures.alike);
+      says = rw c.from.ensures (zero_written (λ (w : List ℕ). Alike w s) out' a first c.repack.ensures.says);
+      again = rw c.from.ensures (zero_written (λ (w : List ℕ). repacked w ≡ w) out' a first c.repack.ensures.again);
+      alike = rw c.from.ensures (zero_written (λ (w : List ℕ). ServedAlike w s) out' a first c.repack.ensures.alike);
     }

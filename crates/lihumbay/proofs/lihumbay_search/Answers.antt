@@ -15,4 +15,4 @@ returns c =
     let s = begin.sheet.now in
     let a = search_answer c.search.result in
     let first = refused-first unlimited s begin.grouping.now begin.store.now a
-    (c.search.ensures.answer ∙ ap (λ (o : Outcome). o.answer) (sym (unlimited-outcome s begin.grouping.now begin.store.now))) in record { answer = c.of_search.ensures ∙ ap numbers_of c.search.ensures.answer; grouping = c.search.ensures.grouping; store = c.search.ensures.store; full = rw c.of_search.ensures (nine s begin.grouping.now begin.store.now a c.search.ensures.full c.search.ensures.capacity); met = rw c.of_search.ensures (one s a first c.search.ensures.met); meets = rw c.of_search.ensures (one-meets s c.search.new.grouping a first c.search.ensures.meets); zero = rw c.of_search.ensures (one_zero s c.search.new.grouping a first c.search.ensures.zero); cannot = rw c.of_search.ensures (two s a first c.search.ensures.cannot); whichever = rw c.of_search.ensures (two_whichever s a first c.search.ensures.whichever); refutes = rw c.of_search.ensures (two_refutes s c.search.new.store a first c.search.ensures.refutes); count = rw c.of_search.ensures (bounded s a first c.search.ensures.count) }
+    (c.search.ensures.answer ∙ ap (λ (o : Outcome). o.answer) (sym (unlimited-outcome s begin.grouping.now begin.store.now))) in record { answer = c.from.ensures ∙ ap numbers_of c.search.ensures.answer; grouping = c.search.ensures.grouping; store = c.search.ensures.store; full = rw c.from.ensures (nine s begin.grouping.now begin.store.now a c.search.ensures.full c.search.ensures.capacity); met = rw c.from.ensures (one s a first c.search.ensures.met); meets = rw c.from.ensures (one-meets s c.search.new.grouping a first c.search.ensures.meets); zero = rw c.from.ensures (one_zero s c.search.new.grouping a first c.search.ensures.zero); cannot = rw c.from.ensures (two s a first c.search.ensures.cannot); whichever = rw c.from.ensures (two_whichever s a first c.search.ensures.whichever); refutes = rw c.from.ensures (two_refutes s c.search.new.store a first c.search.ensures.refutes); count = rw c.from.ensures (bounded s a first c.search.ensures.count) }

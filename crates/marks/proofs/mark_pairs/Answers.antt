@@ -7,12 +7,9 @@ use Rattle.marks.proofs.mark_pairs.Goals as goal
 pub loop-i-init : goal.loop-i-init
 unfolding set_apart
 loop-i-init c =
-    (omega arith, marks_none c.requires.4, outside-none _ _)
+    grind (arith, marks_none, outside-none)
 
 pub loop-i-preserved : goal.loop-i-preserved
 loop-i-preserved c =
-    let turn = c.loop-i in (
-      omega arith,
-      marks_pair turn.i turn.invariant.2 (omega arith) turn.invariant.1 c.mark.ensures,
-      outside_then turn.invariant.2 c.mark.ensures.outside,
-    )
+    let turn = c.loop-i in
+    (marks_pair turn.i turn.invariant.1 (omega arith) turn.invariant.0 (rw (← c.from-a.ensures, ← c.from-b.ensures) c.mark.ensures), outside_then turn.invariant.1 c.mark.ensures.outside)

@@ -1,22 +1,46 @@
--- `reader::read` meets its contract: a refusal is answered as it is, and a sheet that passes has the six bytes of its header.
-use Prim.Native.Nat.{ℕ}
-use mathlib.Core.List.{List}
+-- `reader::read` meets its contract: the checks stand in the table's order, and each is asked once those before it have passed; a refusal is handed on.
 use mathlib.Core.Path.{sym, ◌∙◌}
+use Rattle.sheet.specs.Inner.{HasHeader}
 use Rattle.sheet.specs.Answers.{read_answer_with}
-use Rattle.sheet.proofs.Accepted.{header-whole, sound}
+use Rattle.sheet.proofs.Refusals.{passed_on_is}
+use Rattle.sheet.proofs.Verdicts.{or_else_end}
+use Rattle.sheet.proofs.Accepted.{in_order, header-passed}
+use Rattle.reader.proofs.Order.{after_header, after_heads, after_records, refuses_by}
 use Rattle.reader.proofs.read.Goals as goal
 
-pub header_of-h-requires : goal.header_of-h-requires
-header_of-h-requires c =
-    let s : List ℕ = c.args.sheet.now in
-    header-whole (sound s (sym c.first_refusal-v.ensures ∙ c.in-Passes.is)).header
+pub returns-in_err-h : goal.returns-in_err-h
+returns-in_err-h c =
+    rw (passed_on_is c.from_residual.ensures.1) (refuses_by c.args.sheet.now _ (in_order c.args.sheet.now) c.in_err-h.ensures.verdict)
 
-pub returns-in-Refuses : goal.returns-in-Refuses
-unfolding read_answer_with
-returns-in-Refuses c =
-    rw (sym c.first_refusal-v.ensures ∙ c.in-Refuses.is)
+pub heads-requires : goal.heads-requires
+heads-requires c =
+    rw c.in_ok-h.ensures.header (header-passed c.args.sheet.now (sym c.in_ok-h.ensures.verdict))
 
-pub returns-in-Passes : goal.returns-in-Passes
+pub returns-in_err-heads : goal.returns-in_err-heads
+returns-in_err-heads c =
+    rw (passed_on_is c.from_residual-in_err-heads.ensures.1) (refuses_by c.args.sheet.now _ (after_header c.args.sheet.now c.in_ok-h.ensures.verdict) c.in_err-heads.ensures)
+
+pub records-requires : goal.records-requires
+records-requires c =
+    rw c.in_ok-h.ensures.header (header-passed c.args.sheet.now (sym c.in_ok-h.ensures.verdict))
+
+pub returns-in_err-records : goal.returns-in_err-records
+returns-in_err-records c =
+    rw (passed_on_is c.from_residual-in_err-records.ensures.1)
+    (refuses_by c.args.sheet.now _ (after_heads c.args.sheet.now c.in_ok-h.ensures.verdict c.in_ok-heads.ensures) c.in_err-records.ensures)
+
+pub check-requires : goal.check-requires
+check-requires c =
+    let has : HasHeader c.args.sheet.now c.in_ok-h.h = rw c.in_ok-h.ensures.header (header-passed c.args.sheet.now (sym c.in_ok-h.ensures.verdict)) in
+    (has, sym c.in_ok-heads.ensures, sym c.in_ok-records.ensures)
+
+pub returns-in_err-check : goal.returns-in_err-check
+returns-in_err-check c =
+    let last = after_records c.args.sheet.now c.in_ok-h.ensures.verdict c.in_ok-heads.ensures c.in_ok-records.ensures in
+    rw (passed_on_is c.from_residual-in_err-check.ensures.1) (refuses_by c.args.sheet.now _ (last ∙ sym (or_else_end _)) c.in_err-check.ensures)
+
+pub returns : goal.returns
 unfolding read_answer_with
-returns-in-Passes c =
-    rw (sym c.first_refusal-v.ensures ∙ c.in-Passes.is, c.header_of-h.ensures)
+returns c =
+    let last = after_records c.args.sheet.now c.in_ok-h.ensures.verdict c.in_ok-heads.ensures c.in_ok-records.ensures in
+    rw (last, ← c.in_ok-check.ensures, c.in_ok-h.ensures.header)

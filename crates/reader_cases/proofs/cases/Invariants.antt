@@ -1,9 +1,6 @@
--- `reader_cases::cases`: the place in the text stays within it; what is left of the text falls.
-use Rattle.std.proofs.Common.{◌-◌, ◌≤◌, length}
+-- `reader_cases::cases`: a case takes a byte of the text at least.
+use Rattle.std.proofs.Common.{length}
 use Rattle.reader_cases.proofs.cases.Given as goal
 
-abbrev pub invariant-loop-at : goal.invariant-loop-at
-invariant-loop-at g l = l.at ≤ length l.text
-
-abbrev pub decreases-loop-at : goal.decreases-loop-at
-decreases-loop-at g l = length l.text - l.at
+abbrev pub decreases-loop-text : goal.decreases-loop-text
+decreases-loop-text g l = length l.text.rest.now

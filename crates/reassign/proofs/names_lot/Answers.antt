@@ -8,13 +8,9 @@ use Rattle.sheet.specs.Checks.{Accepted}
 use Rattle.sheet.specs.Conditions.{term_of, term_at}
 use Rattle.sheet.proofs.Accepted.{has_record, sound}
 use Rattle.sheet.proofs.ChainEnds.{rest_shorter}
-use Rattle.equality.proofs.Passing.{passing_start, found, passing_next, ended}
+use Rattle.equality.proofs.Passing.{found, passing_next, ended}
 use Rattle.reassignment.specs.Reassign.{term_names}
 use Rattle.reassign.proofs.names_lot.Goals as goal
-
-pub loop-at-init : goal.loop-at-init
-loop-at-init c =
-    passing_start _ _ _ c.requires.1
 
 pub term_at-t-requires : goal.term_at-t-requires
 term_at-t-requires c =

@@ -4,7 +4,7 @@ use mathlib.Core.Bool.{false}
 use mathlib.Core.List.{List}
 use mathlib.Core.Path.{◌≡◌, refl, sym, ap, ap₂, ◌∙◌}
 use native.Mathlib.Omega.{arith}
-use Rattle.sheet.specs.declared.Verdict.{Verdict}
+use Rattle.sheet.specs.Verdicts.{Verdict}
 use Rattle.sheet.specs.Format.{condition_count}
 use Rattle.sheet.specs.Answers.{answered, answer_of}
 use Rattle.sheet.proofs.Accepted.{sound}
@@ -27,21 +27,6 @@ returns-then-ill_count c =
     -- The test is 22's.
     let tested : c.ill_count.result ≡ ill_count (condition_count s) (unmet_naming s grouping lot) c.args.count = c.ill_count.ensures ∙ ap₂ (λ (m before : ℕ). ill_count m before c.args.count) c.requires.sheet.counted was in
     rw (count-refused s grouping c.args.count lot (sym tested ∙ c.if-ill_count.true)) (record { answer = refl; grouping = refl })
-
-pub overflow_sub-result : goal.overflow_sub-result
-overflow_sub-result c =
-    let s : List ℕ = c.args.sheet.now in
-    let grouping : List ℕ = c.args.grouping.now in
-    let lot : ℕ = c.args.lot.0 in
-    let weight : Weight = c.weigh_grouping-weight.result in
-    let weighed : weight ≡ weight_in s grouping lot c.args.value = c.weigh_grouping-weight.ensures in
-    let was : weight.before ≡ unmet_naming s grouping lot = ap (λ (w : Weight). w.before) weighed in
-    -- The test is 22's.
-    let tested : c.ill_count.result ≡ ill_count (condition_count s) (unmet_naming s grouping lot) c.args.count = c.ill_count.ensures ∙ ap₂ (λ (m before : ℕ). ill_count m before c.args.count) c.requires.sheet.counted was in
-    -- Where 22 passes: the count is at most m, and not below the conditions that are taken away.
-    let passed : ill_count (condition_count s) (unmet_naming s grouping lot) c.args.count ≡ false = sym tested ∙ c.if-ill_count.false in
-    let within : (c.args.count ≤ condition_count s) × (weight.before ≤ c.args.count) = let (high, low) = count-within _ _ _ passed in (high, omega (arith, low, was)) in
-    (within).1
 
 pub overflow_add-result : goal.overflow_add-result
 overflow_add-result c =

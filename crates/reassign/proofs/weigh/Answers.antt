@@ -8,22 +8,10 @@ use Rattle.sheet.specs.Conditions.{Term, condition_at, terms_from}
 use Rattle.sheet.proofs.Accepted.{Sound, sound}
 use Rattle.sheet.proofs.ChainEnds.{head-on}
 use Rattle.evaluator.specs.Numbers.{number_at}
-use Rattle.reassignment.proofs.Summing.{summing_start, summing_next, summed, naming_adds}
+use Rattle.reassignment.proofs.Summing.{summing_next, summed, naming_adds}
 use Rattle.reassign.specs.declared.Weight.{Weight}
 use Rattle.reassign.specs.Weights.{unmet_one_naming, weight_of}
 use Rattle.reassign.proofs.weigh.Goals as goal
-
-pub loop-c-init : goal.loop-c-init
-loop-c-init c =
-    (summing_start _ _, summing_start _ _)
-
-pub overflow_add-c : goal.overflow_add-c
-overflow_add-c c =
-    let s : List ℕ = c.args.sheet.now in
-    let facts : Sound s = sound s c.requires.0.sheet.accepted in
-    -- The next condition is one of the sheet's.
-    let below : c.loop-c.c < condition_count s = omega (arith, c.loop-c-test.true, c.requires.0.sheet.counted) in
-    omega (arith, below, facts.header.conditions)
 
 pub head_at-head-requires : goal.head_at-head-requires
 head_at-head-requires c =
@@ -42,58 +30,6 @@ weigh_one-one-requires c =
       c.requires.1,
       rw c.head_at-head.ensures (head-on s c.requires.0.sheet.accepted (c.loop-c.c + 1) (omega arith) (omega (arith, below))),
     )
-
--- Each sum is at most the number of conditions passed, and so it fits.
-pub overflow_add-was : goal.overflow_add-was
-overflow_add-was c =
-    let s : List ℕ = c.args.sheet.now in
-    let facts : Sound s = sound s c.requires.0.sheet.accepted in
-    -- The next condition is one of the sheet's.
-    let below : c.loop-c.c < condition_count s = omega (arith, c.loop-c-test.true, c.requires.0.sheet.counted) in
-    let here : List Term = condition_at s (suc c.loop-c.c) in
-    let lot : ℕ = c.args.lot.0 in
-    let was_assigned : ℕ → ℕ = number_at c.args.before.now in
-    let is_assigned : ℕ → ℕ = number_at c.args.after.now in
-    -- What `weigh_one` answers is what the next condition counts for.
-    let answer : c.weigh_one-one.result ≡ weight_of was_assigned is_assigned lot here = c.weigh_one-one.ensures
-    ∙ ap (λ (r : ℕ). weight_of was_assigned is_assigned lot (terms_from s r)) c.head_at-head.ensures
-    ∙ ap (λ (n : ℕ). weight_of was_assigned is_assigned lot (condition_at s n)) (add-one c.loop-c.c) in
-    let answer_was : c.weigh_one-one.result.before ≡ unmet_one_naming was_assigned lot here = ap (λ (w : Weight). w.before) answer in
-    omega (
-      arith,
-      answer_was,
-      (naming_adds was_assigned lot).one here,
-      c.loop-c.invariant.0.most,
-      below,
-      facts.header.conditions,
-    )
-
-pub overflow_add-is : goal.overflow_add-is
-overflow_add-is c =
-    let s : List ℕ = c.args.sheet.now in
-    let facts : Sound s = sound s c.requires.0.sheet.accepted in
-    -- The next condition is one of the sheet's.
-    let below : c.loop-c.c < condition_count s = omega (arith, c.loop-c-test.true, c.requires.0.sheet.counted) in
-    let here : List Term = condition_at s (suc c.loop-c.c) in
-    let lot : ℕ = c.args.lot.0 in
-    let was_assigned : ℕ → ℕ = number_at c.args.before.now in
-    let is_assigned : ℕ → ℕ = number_at c.args.after.now in
-    let answer : c.weigh_one-one.result ≡ weight_of was_assigned is_assigned lot here = c.weigh_one-one.ensures
-    ∙ ap (λ (r : ℕ). weight_of was_assigned is_assigned lot (terms_from s r)) c.head_at-head.ensures
-    ∙ ap (λ (n : ℕ). weight_of was_assigned is_assigned lot (condition_at s n)) (add-one c.loop-c.c) in
-    let answer_is : c.weigh_one-one.result.after ≡ unmet_one_naming is_assigned lot here = ap (λ (w : Weight). w.after) answer in
-    omega (
-      arith,
-      answer_is,
-      (naming_adds is_assigned lot).one here,
-      c.loop-c.invariant.1.most,
-      below,
-      facts.header.conditions,
-    )
-
-pub loop-c-smaller : goal.loop-c-smaller
-loop-c-smaller c =
-    omega (arith, c.loop-c-test.true)
 
 pub loop-c-preserved : goal.loop-c-preserved
 loop-c-preserved c =

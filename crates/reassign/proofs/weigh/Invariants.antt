@@ -1,5 +1,5 @@
 -- `reassign::weigh`: what the conditions that the loop has passed count for is added up, before and after.
-use Prim.Native.Nat.{ℕ, ◌-◌}
+use Prim.Native.Nat.{ℕ}
 use mathlib.Core.List.{List}
 use Rattle.sheet.specs.Conditions.{Term}
 use Rattle.evaluator.specs.Numbers.{number_at}
@@ -14,6 +14,3 @@ total numbers lot tss = unmet_count (number_at numbers) (naming lot tss)
 
 abbrev pub invariant-loop-c : goal.invariant-loop-c
 invariant-loop-c l = Summing (total l.before l.lot.0) l.sheet l.c l.was × Summing (total l.after l.lot.0) l.sheet l.c l.is
-
-abbrev pub decreases-loop-c : goal.decreases-loop-c
-decreases-loop-c l = l.m - l.c

@@ -2,10 +2,6 @@
 use mathlib.Core.Path.{sym, ◌∙◌}
 use Rattle.reassign.proofs.weigh_one.Goals as goal
 
-pub returns-then-not-names_lot : goal.returns-then-not-names_lot
-returns-then-not-names_lot c =
-    rw (sym c.names_lot.ensures ∙ c.if-not-names_lot.true)
-
 pub returns : goal.returns
 returns c =
     rw (c.unmet_one-was.ensures, c.unmet_one-is.ensures, sym c.names_lot.ensures ∙ c.if-not-names_lot.false)

@@ -9,6 +9,3 @@ use Rattle.repack.proofs.add_conditions.Given as goal
 
 abbrev pub invariant-loop-c : goal.invariant-loop-c
 invariant-loop-c l = (l.c ≤ condition_count l.sheet) × Packing (conditions l.sheet) (draft l.initial.out l.initial.next) (drop l.c (conditions l.sheet)) (draft l.out l.next)
-
-abbrev pub decreases-loop-c : goal.decreases-loop-c
-decreases-loop-c l = l.m - l.c

@@ -9,6 +9,7 @@ use Rattle.sheet.specs.Inner.{HasRecord}
 use Rattle.sheet.proofs.Accepted.{sound, has_record}
 use Rattle.sheet.proofs.Walks.{vacant_or_signed}
 use Rattle.repack.proofs.Terms.{counted_start, vacant-next, filled_next, counted_end}
+use Rattle.repack.proofs.count_terms.Goals.{then-t-ne0, else-t-ne0}
 use Rattle.repack.proofs.count_terms.Goals as goal
 
 pub loop-r-init : goal.loop-r-init
@@ -32,31 +33,17 @@ overflow_add-terms c =
     let below : c.loop-r.r < record_count c.args.sheet.now = omega (arith, c.loop-r-test.true, c.requires.1) in
     omega (arith, c.loop-r.invariant.few, below, (sound c.args.sheet.now c.requires.0.accepted).header.records)
 
-pub loop-r-smaller-then-t-ne0 : goal.loop-r-smaller-then-t-ne0
-loop-r-smaller-then-t-ne0 c =
-    omega (arith, c.loop-r-test.true)
-
-pub loop-r-preserved-then-t-ne0 : goal.loop-r-preserved-then-t-ne0
-loop-r-preserved-then-t-ne0 c =
-    let below : c.loop-r.r < record_count c.args.sheet.now = omega (arith, c.loop-r-test.true, c.requires.1) in
-    let told : eqb c.term_at-t.result.sign 0 ≡ vacant c.args.sheet.now (c.loop-r.r + 1) = let s = c.args.sheet.now in
-    let r = c.loop-r.r + 1 in
-    ap (λ (t : Term). eqb t.sign 0) c.term_at-t.ensures
-    ∙ vacant_or_signed s r ((sound s c.requires.0.accepted).records r (omega arith) (omega (arith, below))) in
-    filled_next c.loop-r.invariant below (sym told ∙ ne_eqb _ _ c.if-t-ne0.true)
-
-pub loop-r-smaller : goal.loop-r-smaller
-loop-r-smaller c =
-    omega (arith, c.loop-r-test.true)
-
 pub loop-r-preserved : goal.loop-r-preserved
 loop-r-preserved c =
-    let below : c.loop-r.r < record_count c.args.sheet.now = omega (arith, c.loop-r-test.true, c.requires.1) in
-    let told : eqb c.term_at-t.result.sign 0 ≡ vacant c.args.sheet.now (c.loop-r.r + 1) = let s = c.args.sheet.now in
+    let s = c.args.sheet.now in
     let r = c.loop-r.r + 1 in
-    ap (λ (t : Term). eqb t.sign 0) c.term_at-t.ensures
+    let below : c.loop-r.r < record_count s = omega (arith, c.loop-r-test.true, c.requires.1) in
+    let told : eqb c.term_at-t.result.sign 0 ≡ vacant s r = ap (λ (t : Term). eqb t.sign 0) c.term_at-t.ensures
     ∙ vacant_or_signed s r ((sound s c.requires.0.accepted).records r (omega arith) (omega (arith, below))) in
-    vacant-next c.loop-r.invariant below (sym told ∙ eq-eqb _ _ c.if-t-ne0.false)
+    elim c.if-t-ne0.branch [
+      | then-t-ne0 w ↦ rw w.terms-is (filled_next c.loop-r.invariant below (sym told ∙ ne_eqb _ _ w.if-t-ne0.true))
+      | else-t-ne0 w ↦ rw w.terms-is (vacant-next c.loop-r.invariant below (sym told ∙ eq-eqb _ _ w.if-t-ne0.false))
+    ]
 
 pub returns : goal.returns
 returns c =

@@ -5,6 +5,3 @@ use Rattle.repack.proofs.count_terms.Given as goal
 
 abbrev pub invariant-loop-r : goal.invariant-loop-r
 invariant-loop-r l = Counted l.sheet l.r l.terms
-
-abbrev pub decreases-loop-r : goal.decreases-loop-r
-decreases-loop-r l = l.k - l.r

@@ -6,7 +6,7 @@ use native.Mathlib.Omega.{arith}
 use Rattle.sheet.specs.declared.Header.{Header}
 use Rattle.sheet.specs.Format.{lowest_lot, most_lots}
 use Rattle.sheet.proofs.Accepted.{sound}
-use Rattle.limit.specs.Scan.{limit_of}
+use Rattle.limit.specs.Scan.{limit_in}
 use Rattle.refutation.specs.Refutation.{walk_record}
 use Rattle.path.specs.Paths.{path_of}
 use Rattle.steps.specs.Steps.{Counted}
@@ -24,10 +24,10 @@ clique_step-requires c = (few_lots c.args.sheet.now c.args.counts c.requires.0, 
 
 pub returns-in-Split-clause-walk : goal.returns-in-Split-clause-walk
 returns-in-Split-clause-walk c = λ walk_rest rest left.
-    ap (walk_record (limit_of c.args.limit) lowest_lot c.args.sheet.now walk_rest rest c.args.at.number (path_of c.args.path.now c.args.at.depth)) (sym c.in-Split.ensures)
+    ap (walk_record (limit_in c.args.limit) lowest_lot c.args.sheet.now walk_rest rest c.args.at.number (path_of c.args.path.now c.args.at.depth)) (sym c.in-Split.ensures)
     ∙ c.split_step.ensures.walk c.args.sheet.now c.requires.0.lots walk_rest rest
 
 pub returns-in-Ground-clause-walk : goal.returns-in-Ground-clause-walk
 returns-in-Ground-clause-walk c = λ walk_rest rest left.
-    ap (walk_record (limit_of c.args.limit) lowest_lot c.args.sheet.now walk_rest rest c.args.at.number (path_of c.args.path.now c.args.at.depth)) (sym c.in-Ground.ensures)
-    ∙ c.ground_step.ensures.walk (limit_of c.args.limit) walk_rest rest left
+    ap (walk_record (limit_in c.args.limit) lowest_lot c.args.sheet.now walk_rest rest c.args.at.number (path_of c.args.path.now c.args.at.depth)) (sym c.in-Ground.ensures)
+    ∙ c.ground_step.ensures.walk (limit_in c.args.limit) walk_rest rest left

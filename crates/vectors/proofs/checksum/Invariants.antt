@@ -1,10 +1,9 @@
--- `vectors::checksum`: both sums stay below the modulus; the bytes left fall.
-use Prim.Native.Nat.{◌≤◌, ◌<◌}
-use lib.ListN.{length}
+-- `vectors::checksum`: both sums stay below the modulus.
+use Rattle.std.proofs.Common.{◌<◌}
 use Rattle.vectors.proofs.checksum.Given as goal
 
-abbrev pub invariant-loop-i : goal.invariant-loop-i
-invariant-loop-i l = (l.i ≤ length l.bytes) × (l.sum < 65521) × (l.passed < 65521)
-
-abbrev pub decreases-loop-i : goal.decreases-loop-i
-decreases-loop-i l = l.i
+abbrev pub invariant-loop-byte : goal.invariant-loop-byte
+invariant-loop-byte l =
+    (goal.iterator-loop-byte).can_next l.byte-iterator ×
+    (goal.iterator-loop-byte).is_finite l.byte-iterator ×
+    (l.sum < 65521) × (l.passed < 65521)

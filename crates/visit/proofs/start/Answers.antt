@@ -1,5 +1,4 @@
 -- `visit::start`: with no decision the map has every lot alone, there are no pairs, and no condition is settled; what is visited from there is the search.
-use Prim.Native.Nat.{◌≤◌}
 use mathlib.Core.List.{[]}
 use mathlib.Core.Path.{sym}
 use native.Mathlib.Omega.{arith}
@@ -8,7 +7,7 @@ use Rattle.sheet.specs.Format.{lot_count}
 use Rattle.sheet.specs.Conditions.{conditions}
 use Rattle.sheet.proofs.Accepted.{sound}
 use Rattle.sheet.proofs.Conditions.{conditions_in}
-use Rattle.limit.specs.Scan.{limit_of}
+use Rattle.limit.specs.Scan.{limit_in}
 use Rattle.limit.proofs.Under.{under_visits}
 use Rattle.outcome.specs.Limited.{tree_of}
 use Rattle.visit.proofs.Standing.{start_standing, start_settled, start_level}
@@ -16,22 +15,19 @@ use Rattle.visit.proofs.start.Goals as goal
 
 pub slice_bounds-levels-end : goal.slice_bounds-levels-end
 slice_bounds-levels-end c =
-    let conditions-within : c.args.m ≤ 256 = omega (arith, c.requires.0.sheet.counted, (sound c.args.sheet.now c.requires.0.sheet.accepted).header.conditions) in
-    omega (arith, conditions-within)
+    omega (arith, c.requires.0.sheet.counted, (sound c.args.sheet.now c.requires.0.sheet.accepted).header.conditions)
 
 pub slice_bounds-visit-end : goal.slice_bounds-visit-end
 slice_bounds-visit-end c =
-    let conditions-within : c.args.m ≤ 256 = omega (arith, c.requires.0.sheet.counted, (sound c.args.sheet.now c.requires.0.sheet.accepted).header.conditions) in
-    sym (length-take-le _ _ (omega (arith, conditions-within)))
+    sym (length-take-le _ _ (omega (arith, c.requires.0.sheet.counted, (sound c.args.sheet.now c.requires.0.sheet.accepted).header.conditions)))
 
 pub visit-requires : goal.visit-requires
 visit-requires c =
-    let conditions-within : c.args.m ≤ 256 = omega (arith, c.requires.0.sheet.counted, (sound c.args.sheet.now c.requires.0.sheet.accepted).header.conditions) in
     let s = c.args.sheet.now in
     let ok = c.requires.0.sheet.accepted in (
       c.requires.0,
       record {
-        settled = start_settled _ s 256 c.args.m (conditions-within) (omega (arith, c.requires.0.sheet.counted));
+        settled = start_settled _ s 256 c.args.m (omega (arith, c.requires.0.sheet.counted, (sound s ok).header.conditions)) (omega (arith, c.requires.0.sheet.counted));
         path = [];
         standing = start_standing c.args.limit s ok _ _ c.new-map.ensures c.requires.1;
         resumes = tt;
@@ -43,7 +39,7 @@ pub returns : goal.returns
 returns c =
     let s = c.args.sheet.now in
     let ok = c.requires.0.sheet.accepted in
-    c.visit.ensures.visited [] (tree_of (limit_of c.args.limit) s)
+    c.visit.ensures.visited [] (tree_of (limit_in c.args.limit) s)
     (start_standing c.args.limit s ok _ _ c.new-map.ensures c.requires.1)
     tt
-    (under_visits (limit_of c.args.limit) (lot_count s) (conditions s) (conditions_in s ok))
+    (under_visits (limit_in c.args.limit) (lot_count s) (conditions s) (conditions_in s ok))

@@ -1,12 +1,10 @@
 -- `writer::add_condition`: a head, then the terms of the condition's chain.
-use Prim.Native.Nat.{ℕ}
-use mathlib.Core.Path.{ap₂, ◌∙◌}
 use native.Mathlib.Omega.{arith}
 use lib.ListN.{length}
-use Rattle.sheet.specs.Conditions.{terms_from, condition_at}
+use Rattle.sheet.specs.Conditions.{condition_at}
 use Rattle.sheet.proofs.Accepted.{sound}
 use Rattle.sheet.proofs.ChainEnds.{head-on}
-use Rattle.writer.specs.Drafts.{Draft, draft, with_terms}
+use Rattle.writer.specs.Drafts.{draft}
 use Rattle.writer.proofs.Rooms.{room-condition}
 use Rattle.writer.proofs.add_condition.Goals as goal
 
@@ -23,8 +21,3 @@ add_chain-requires c =
       rw c.head_at-head.ensures (head-on s c.requires.0.accepted number c.requires.1 c.requires.2),
       rw (c.head_at-head.ensures, c.begin_condition-begun.ensures) (room-condition 0 (length (condition_at s number)) before c.requires.3),
     )
-
-pub returns : goal.returns
-returns c =
-    let s = c.args.sheet.now in
-    c.add_chain.ensures ∙ ap₂ (λ (r : ℕ) (d : Draft). with_terms (terms_from s r) d) c.head_at-head.ensures c.begin_condition-begun.ensures

@@ -1,5 +1,4 @@
 -- `reader::checks::heads` meets its contract. The loop's invariant: no head before the present condition is above k.
--- The measure is how many conditions are left.
 use Prim.Native.Nat.{ℕ, ◌≤◌}
 use mathlib.Core.Bool.{Bool}
 use mathlib.Core.List.{List}
@@ -19,11 +18,6 @@ pub loop-c-init : goal.loop-c-init
 loop-c-init c =
     start
 
-pub head_at-head-requires : goal.head_at-head-requires
-head_at-head-requires c =
-    let in_range : c.loop-c.c ≤ condition_count c.args.sheet.now = omega (arith, conditions-counted c.requires) in
-    omega (arith, in_range)
-
 pub returns-then-h-head : goal.returns-then-h-head
 unfolding check4
 returns-then-h-head c =
@@ -38,6 +32,16 @@ loop-c-preserved c =
     let s : List ℕ = c.args.sheet.now in
     passed c.loop-c.invariant (in_range)
     (le-ltb (record_count s) (head_at s c.loop-c.c) (omega (arith, records-counted c.requires, c.head_at-head.ensures)))
+
+-- After the last condition.
+pub returns-else-h-head : goal.returns-else-h-head
+unfolding check4
+returns-else-h-head c =
+    let in_range : c.loop-c.c ≤ condition_count c.args.sheet.now = omega (arith, conditions-counted c.requires) in
+    let s : List ℕ = c.args.sheet.now in
+    end (passed c.loop-c.invariant (in_range)
+    (le-ltb (record_count s) (head_at s c.loop-c.c) (omega (arith, records-counted c.requires, c.head_at-head.ensures))))
+    (omega (arith, conditions-counted c.requires))
 
 pub returns : goal.returns
 unfolding check4

@@ -1,4 +1,4 @@
-use Prim.Native.Nat.{ℕ, ◌+◌, ◌-◌}
+use Prim.Native.Nat.{ℕ}
 use mathlib.Core.Bool.{Bool}
 use mathlib.Core.List.{List}
 use lib.Dec.{ltb}
@@ -11,6 +11,3 @@ above_records s c = ltb (record_count s) (head_at s c)
 
 abbrev pub invariant-loop-c : goal.invariant-loop-c
 invariant-loop-c l = Counting 4 (above_records l.sheet) (condition_count l.sheet) l.c
-
-abbrev pub decreases-loop-c : goal.decreases-loop-c
-decreases-loop-c l = l.m + 1 - l.c

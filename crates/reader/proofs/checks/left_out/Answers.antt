@@ -1,13 +1,10 @@
 -- `reader::checks::left_out` meets its contract: a record that isn't flagged is left out unless it is vacant, which its sign tells.
-use Prim.Native.Nat.{ℕ}
 use mathlib.Core.Bool.{Bool, true, false, not, ◌||◌, or-true, or-false}
-use mathlib.Core.Path.{◌≡◌, sym, ap, subst, ◌∙◌}
+use mathlib.Core.Path.{◌≡◌, sym, ap, ◌∙◌}
 use lib.Dec.{eqb}
 use borrow.Author.Tests.{eq-eqb, ne_eqb}
 use Rattle.sheet.specs.declared.Term.{Term}
 use Rattle.sheet.specs.Format.{vacant}
-use Rattle.sheet.specs.Inner.{HasRecord}
-use Rattle.sheet.proofs.Accepted.{conditions-counted, has_record}
 use Rattle.reader.proofs.checks.left_out.Goals as goal
 
 flagged : (v : Bool) {b : Bool} → b ≡ true → false ≡ not (v || b)
@@ -20,12 +17,6 @@ pub returns-then-flags-i-eq1 : goal.returns-then-flags-i-eq1
 returns-then-flags-i-eq1 c =
     let a = c.args in
     flagged (vacant a.sheet.now a.r.0) (eq-eqb _ _ c.if-flags-i-eq1.true)
-
-pub term_at-t-requires : goal.term_at-t-requires
-term_at-t-requires c =
-    let has = c.requires.0.header in
-    subst (λ (m : ℕ). HasRecord c.args.sheet.now m c.args.r.0) (sym (conditions-counted has))
-    (has_record has c.args.r.0 c.requires.1 c.requires.2)
 
 pub returns : goal.returns
 returns c =

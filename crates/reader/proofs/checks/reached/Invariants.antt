@@ -1,4 +1,4 @@
-use Prim.Native.Nat.{ℕ, ◌+◌, ◌-◌}
+use Prim.Native.Nat.{ℕ}
 use mathlib.Core.Bool.{Bool, not, ◌||◌}
 use mathlib.Core.List.{List}
 use Rattle.sheet.specs.Format.{record_count, vacant}
@@ -11,6 +11,3 @@ left_out s flags r = not (vacant s r || is_flagged flags r)
 
 abbrev pub invariant-loop-r : goal.invariant-loop-r
 invariant-loop-r l = Counting 7 (left_out l.sheet l.flags) (record_count l.sheet) l.r
-
-abbrev pub decreases-loop-r : goal.decreases-loop-r
-decreases-loop-r l = l.k + 1 - l.r

@@ -1,13 +1,8 @@
 -- `reader::checks::vacant_or_formed` meets its contract: a record that isn't well formed has to be vacant.
-use mathlib.Core.Bool.{or-true, or-false}
+use mathlib.Core.Bool.{or-false}
 use mathlib.Core.Path.{sym, ◌∙◌}
 use Rattle.sheet.specs.Format.{vacant}
 use Rattle.reader.proofs.checks.vacant_or_formed.Goals as goal
-
-pub returns-then-well_formed : goal.returns-then-well_formed
-returns-then-well_formed c =
-    let a = c.args in
-    sym (rw (sym c.well_formed-2.ensures ∙ c.if-well_formed.true) (or-true (vacant a.sheet.now a.r.0)))
 
 pub returns : goal.returns
 returns c =

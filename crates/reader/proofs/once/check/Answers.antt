@@ -1,22 +1,12 @@
 -- `reader::once::check` meets its contract: k zeros are flags of which none is set, and checks 1 to 5 make the sheet one to walk.
 use Prim.Native.Nat.{ℕ, ◌≤◌}
 use mathlib.Core.List.{List}
-use mathlib.Core.Path.{sym, ◌∙◌}
+use mathlib.Core.Path.{◌∙◌}
 use native.Mathlib.Omega.{arith}
 use Rattle.sheet.proofs.Accepted.{records-counted, heads_found}
 use Rattle.sheet.proofs.Walks.{signs_tell, nexts_found}
 use Rattle.reader.proofs.Flags.{zeros_length, none_flagged}
 use Rattle.reader.proofs.once.check.Goals as goal
-
-pub slice_bounds-flags-end : goal.slice_bounds-flags-end
-slice_bounds-flags-end c =
-    let few : c.args.h.records ≤ 1024 = omega (arith, c.requires.0.records, records-counted c.requires.0) in
-    few
-
-pub slice_bounds-reached_once-end : goal.slice_bounds-reached_once-end
-slice_bounds-reached_once-end c =
-    let few : c.args.h.records ≤ 1024 = omega (arith, c.requires.0.records, records-counted c.requires.0) in
-    sym (zeros_length 1024 c.args.h.records (few))
 
 pub reached_once-requires : goal.reached_once-requires
 reached_once-requires c =

@@ -6,18 +6,12 @@ use lib.Dec.{eqb}
 use borrow.Author.Tests.{eq-eqb, ne_eqb}
 use Rattle.sheet.specs.Format.{vacant}
 use Rattle.sheet.specs.declared.Term.{Term}
-use Rattle.sheet.proofs.Accepted.{conditions-counted, has_record}
 use Rattle.reader.proofs.WalkLoops.{begun, ended, nothing, hit, fewer, more}
 use Rattle.reader.proofs.once.walk_chain.Goals as goal
 
 pub loop-at-init : goal.loop-at-init
 loop-at-init c =
     begun c.args.sheet.now c.args.flags.now c.args.head.0 c.requires.0.flaggable.room c.requires.1
-
-pub term_at-t-requires : goal.term_at-t-requires
-term_at-t-requires c =
-    let has = c.requires.0.flaggable.header in
-    rw (conditions-counted has) (has_record has c.loop-at.at.0 (omega arith) c.loop-at.invariant.within)
 
 pub returns-then-t-eq0 : goal.returns-then-t-eq0
 returns-then-t-eq0 c =

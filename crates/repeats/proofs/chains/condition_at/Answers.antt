@@ -1,4 +1,4 @@
-use Prim.Native.Nat.{◌≤◌, ◌<◌}
+use Prim.Native.Nat.{◌<◌}
 use mathlib.Core.Path.{sym, ap, subst, ◌∙◌}
 use native.Mathlib.Omega.{arith}
 use lib.ListN.{length}
@@ -23,33 +23,28 @@ loop-at-init c =
 
 pub term_at-t-requires : goal.term_at-t-requires
 term_at-t-requires c =
-    let record_number : 1 ≤ c.loop-at.at.0 = omega (arith, c.loop-at-test.true) in
     let can = c.requires.0 in
-    rw can.counted (has_record (sound c.args.sheet.now can.accepted).header c.loop-at.at.0 (record_number) c.loop-at.invariant.on.within)
+    rw can.counted (has_record (sound c.args.sheet.now can.accepted).header c.loop-at.at.0 (omega arith) c.loop-at.invariant.on.within)
 
 pub digest_with-digest-requires : goal.digest_with-digest-requires
 digest_with-digest-requires c =
-    let record_number : 1 ≤ c.loop-at.at.0 = omega (arith, c.loop-at-test.true) in
-    let small = small-fields c.loop-at.invariant c.requires.0.accepted (record_number) in
+    let small = small-fields c.loop-at.invariant c.requires.0.accepted (omega arith) in
     rw c.term_at-t.ensures (c.loop-at.invariant.small, small.sign, small.first, small.second)
 
 pub overflow_add-terms : goal.overflow_add-terms
 overflow_add-terms c =
-    let record_number : 1 ≤ c.loop-at.at.0 = omega (arith, c.loop-at-test.true) in
-    omega (arith, one_more c.loop-at.invariant c.requires.0.accepted (record_number))
+    omega (arith, one_more c.loop-at.invariant c.requires.0.accepted (omega arith))
 
 pub loop-at-smaller : goal.loop-at-smaller
 loop-at-smaller c =
-    let record_number : 1 ≤ c.loop-at.at.0 = omega (arith, c.loop-at-test.true) in
     let s = c.args.sheet.now in
     let r = c.loop-at.at.0 in
     subst (λ (t : Term). length (records_from s t.next.0) < length (records_from s r)) (sym c.term_at-t.ensures)
-    (rest_shorter s c.requires.0.accepted r (record_number) c.loop-at.invariant.on.within)
+    (rest_shorter s c.requires.0.accepted r (omega arith) c.loop-at.invariant.on.within)
 
 pub loop-at-preserved : goal.loop-at-preserved
 loop-at-preserved c =
-    let record_number : 1 ≤ c.loop-at.at.0 = omega (arith, c.loop-at-test.true) in
-    rw (c.digest_with-digest.ensures, c.term_at-t.ensures) (digesting_next c.loop-at.invariant c.requires.0.accepted (record_number))
+    rw (c.digest_with-digest.ensures, c.term_at-t.ensures) (digesting_next c.loop-at.invariant c.requires.0.accepted (omega arith))
 
 -- ---- past the last term
 pub returns : goal.returns

@@ -1,69 +1,51 @@
-use Prim.Native.Nat.{◌≤◌, ◌<◌}
-use mathlib.Core.Path.{◌≡◌, sym, ap₂, subst, ◌∙◌}
+use Prim.Native.Nat.{◌<◌}
+use mathlib.Core.Path.{sym, ap₂, subst, ◌∙◌}
 use native.Mathlib.Omega.{arith}
 use lib.ListN.{length}
 use Rattle.sheet.specs.declared.Term.{Term}
-use Rattle.sheet.specs.Conditions.{term_at, records_from}
+use Rattle.sheet.specs.Conditions.{records_from}
 use Rattle.sheet.proofs.Accepted.{has_record, sound}
 use Rattle.sheet.proofs.ChainEnds.{rest_shorter}
-use Rattle.repeats.specs.Repeats.{equal_terms}
 use Rattle.repeats.specs.Inner.{equal_fields}
-use Rattle.repeats.proofs.Comparing.{comparing_start, first_over, second_over, compared, terms_differ, comparing_next}
+use Rattle.repeats.proofs.Comparing.{first_over, second_over, terms_differ, comparing_next}
 use Rattle.repeats.proofs.chains.equal_chains.Goals as goal
-
-pub loop-p-init : goal.loop-p-init
-loop-p-init c =
-    comparing_start _ _ _ _ c.requires.1 c.requires.3
 
 -- The second chain alone is over.
 pub returns-then-q-eq0 : goal.returns-then-q-eq0
 returns-then-q-eq0 c =
-    -- The record of the first chain is one of its sheet's, and past the second test so is that of the second.
-    let first-number : 1 ≤ c.loop-p.p.0 = omega (arith, c.loop-p-test.true) in
-    sym (second_over c.loop-p.invariant c.requires.0.accepted c.requires.2.accepted first-number c.if-q-eq0.true)
+    sym (second_over c.loop-p.invariant c.requires.0.accepted c.requires.2.accepted (omega arith) c.if-q-eq0.true)
 
 pub term_at-t-requires : goal.term_at-t-requires
 term_at-t-requires c =
-    let first-number : 1 ≤ c.loop-p.p.0 = omega (arith, c.loop-p-test.true) in
     let can = c.requires.0 in
-    rw can.counted (has_record (sound c.args.first.now can.accepted).header c.loop-p.p.0 first-number c.loop-p.invariant.first.within)
+    rw can.counted (has_record (sound c.args.first.now can.accepted).header c.loop-p.p.0 (omega arith) c.loop-p.invariant.first.within)
 
 pub term_at-u-requires : goal.term_at-u-requires
 term_at-u-requires c =
-    let second-number : 1 ≤ c.loop-p.q.0 = omega (arith, c.if-q-eq0.false) in
     let can = c.requires.2 in
-    rw can.counted (has_record (sound c.args.second.now can.accepted).header c.loop-p.q.0 second-number c.loop-p.invariant.second.within)
+    rw can.counted (has_record (sound c.args.second.now can.accepted).header c.loop-p.q.0 (omega arith) c.loop-p.invariant.second.within)
 
 -- The terms differ.
 pub returns-then-not-equal_terms : goal.returns-then-not-equal_terms
 returns-then-not-equal_terms c =
-    let first-number : 1 ≤ c.loop-p.p.0 = omega (arith, c.loop-p-test.true) in
-    let second-number : 1 ≤ c.loop-p.q.0 = omega (arith, c.if-q-eq0.false) in
-    let answer : c.equal_terms.result ≡ equal_terms (term_at c.args.first.now c.loop-p.p.0) (term_at c.args.second.now c.loop-p.q.0) = c.equal_terms.ensures
-    ∙ ap₂ equal_fields c.term_at-t.ensures c.term_at-u.ensures
-    ∙ sym (compared c.loop-p.invariant c.requires.0.accepted c.requires.2.accepted first-number second-number) in
+    let answer = sym (c.equal_terms.ensures ∙ ap₂ equal_fields c.term_at-t.ensures c.term_at-u.ensures) in
     sym
-    (terms_differ c.loop-p.invariant c.requires.0.accepted c.requires.2.accepted first-number second-number
-    (sym answer ∙ c.if-not-equal_terms.true))
+    (terms_differ c.loop-p.invariant c.requires.0.accepted c.requires.2.accepted (omega arith) (omega arith)
+    (answer ∙ c.if-not-equal_terms.true))
 
 -- They are equal.
 pub loop-p-smaller : goal.loop-p-smaller
 loop-p-smaller c =
-    let first-number : 1 ≤ c.loop-p.p.0 = omega (arith, c.loop-p-test.true) in
     let s = c.args.first.now in
     subst (λ (t : Term). length (records_from s t.next.0) < length (records_from s c.loop-p.p.0)) (sym c.term_at-t.ensures)
-    (rest_shorter s c.requires.0.accepted c.loop-p.p.0 first-number c.loop-p.invariant.first.within)
+    (rest_shorter s c.requires.0.accepted c.loop-p.p.0 (omega arith) c.loop-p.invariant.first.within)
 
 pub loop-p-preserved : goal.loop-p-preserved
 loop-p-preserved c =
-    let first-number : 1 ≤ c.loop-p.p.0 = omega (arith, c.loop-p-test.true) in
-    let second-number : 1 ≤ c.loop-p.q.0 = omega (arith, c.if-q-eq0.false) in
-    let answer : c.equal_terms.result ≡ equal_terms (term_at c.args.first.now c.loop-p.p.0) (term_at c.args.second.now c.loop-p.q.0) = c.equal_terms.ensures
-    ∙ ap₂ equal_fields c.term_at-t.ensures c.term_at-u.ensures
-    ∙ sym (compared c.loop-p.invariant c.requires.0.accepted c.requires.2.accepted first-number second-number) in
+    let answer = sym (c.equal_terms.ensures ∙ ap₂ equal_fields c.term_at-t.ensures c.term_at-u.ensures) in
     rw (c.term_at-t.ensures, c.term_at-u.ensures)
-    (comparing_next c.loop-p.invariant c.requires.0.accepted c.requires.2.accepted first-number second-number
-    (sym answer ∙ c.if-not-equal_terms.false))
+    (comparing_next c.loop-p.invariant c.requires.0.accepted c.requires.2.accepted (omega arith) (omega arith)
+    (answer ∙ c.if-not-equal_terms.false))
 
 -- The first chain is over.
 pub returns : goal.returns

@@ -1,10 +1,6 @@
 -- `repeats::kept::gather`: of the conditions passed those that stay are entered; with what stays of the others they come to what stays of all.
-use Prim.Native.Nat.{◌-◌}
 use Rattle.repeats.proofs.Gathering.{Gathering}
 use Rattle.repeats.proofs.kept.gather.Given as goal
 
 abbrev pub invariant-loop-c : goal.invariant-loop-c
-invariant-loop-c l = Gathering l.first l.from l.second l.initial.entries l.c l.entries l.upto l.terms
-
-abbrev pub decreases-loop-c : goal.decreases-loop-c
-decreases-loop-c l = l.m2 - l.c
+invariant-loop-c l = Gathering l.first l.mine l.second l.initial.others l.c l.others l.upto l.terms

@@ -1,49 +1,41 @@
 -- `repeats::kept::gather_both`: the conditions of the first sheet that stay behind none, and those of the second that stay behind them.
-use Prim.Native.Nat.{◌≤◌}
+use mathlib.Core.Path.{sym, subst}
 use native.Mathlib.Omega.{arith}
-use Rattle.sheet.specs.Format.{most_conditions}
+use Rattle.buffers.specs.Lists.{All}
 use Rattle.sheet.proofs.Accepted.{sound}
 use Rattle.sheet.proofs.Conditions.{terms-length}
+use Rattle.repeats.specs.Inner.{EntryOf}
 use Rattle.repeats.proofs.Entered.{entered}
 use borrow.Author.Rules.{rules}
 use Rattle.repeats.proofs.kept.gather_both.Goals as goal
 
-pub gather-mine-requires : goal.gather-mine-requires
-gather-mine-requires c =
-    -- Neither sheet has more conditions than a sheet may have.
-    let limits : (c.args.m1 ≤ most_conditions) × (c.args.m2 ≤ most_conditions) = (
-      omega (arith, c.requires.0.counted, (sound c.args.first.now c.requires.0.accepted).header.conditions),
-      omega (arith, c.requires.1.counted, (sound c.args.second.now c.requires.1.accepted).header.conditions),
-    ) in
-    let limit = limits in
-    (search rules, search rules, record { order = omega arith; room = omega arith; each = tt }, omega arith, omega (arith, c.requires.2, limit.0, limit.1))
+-- Neither sheet has more conditions than a sheet may have.
+pub gather-kept-requires : goal.gather-kept-requires
+gather-kept-requires c =
+    let limit = (sound c.args.first.now c.requires.0.accepted).header.conditions in
+    let limit' = (sound c.args.second.now c.requires.1.accepted).header.conditions in
+    (search rules, search rules, tt, omega (arith, limit, limit', c.requires.0.counted, c.requires.1.counted, c.requires.2))
 
-pub gather-others-requires : goal.gather-others-requires
-gather-others-requires c =
-    -- Neither sheet has more conditions than a sheet may have.
-    let limits : (c.args.m1 ≤ most_conditions) × (c.args.m2 ≤ most_conditions) = (
-      omega (arith, c.requires.0.counted, (sound c.args.first.now c.requires.0.accepted).header.conditions),
-      omega (arith, c.requires.1.counted, (sound c.args.second.now c.requires.1.accepted).header.conditions),
-    ) in
-    let first = c.gather-mine.ensures in
-    let limit = limits in
-    let mine-counted = c.requires.0.counted in
-    let other-counted = c.requires.1.counted in (
+pub gather-more-requires : goal.gather-more-requires
+gather-more-requires c =
+    let limit = (sound c.args.first.now c.requires.0.accepted).header.conditions in
+    let limit' = (sound c.args.second.now c.requires.1.accepted).header.conditions in
+    let kept = c.gather-kept.ensures in
+    let cut = c.split_at_mut-mine.ensures in (
       search rules,
       search rules,
-      first.entered,
-      omega (arith, first.few, limit.0, limit.1, mine-counted, other-counted),
-      omega (arith, first.few, limit.0, limit.1, mine-counted, other-counted, c.requires.2, c.gather-mine.auto.entries),
+      subst (All (EntryOf _)) (sym cut.front) kept.entered,
+      omega (arith, kept.few, limit, limit', c.requires.0.counted, c.requires.1.counted, c.requires.2, c.gather-kept.auto.others, cut.back_len),
     )
 
-pub overflow_add-result : goal.overflow_add-result
-overflow_add-result c =
+pub overflow_add-result-2 : goal.overflow_add-result-2
+overflow_add-result-2 c =
     let s = c.args.first.now in
     let t = c.args.second.now in
     let ok = c.requires.0.accepted in
     let ok' = c.requires.1.accepted in
-    omega (arith, c.gather-mine.ensures.short, c.gather-others.ensures.short, terms-length s ok, terms-length t ok', (sound s ok).header.records, (sound t ok').header.records)
+    omega (arith, c.gather-kept.ensures.short, c.gather-more.ensures.short, terms-length s ok, terms-length t ok', (sound s ok).header.records, (sound t ok').header.records)
 
 pub returns : goal.returns
 returns c =
-    entered _ _ c.gather-mine.ensures c.gather-others.ensures
+    entered _ _ c.gather-kept.ensures c.split_at_mut-mine.ensures.front c.gather-more.ensures

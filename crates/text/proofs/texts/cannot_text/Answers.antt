@@ -1,29 +1,19 @@
 -- `texts::cannot_text` meets its contract: the first line, the records' lines and the last, one after the other.
-use Prim.Native.Nat.{ℕ, ◌+◌, ◌≤◌}
-use mathlib.Core.List.{List, ◌++◌}
-use native.Mathlib.Omega.{arith}
-use lib.ListN.{length}
-use Rattle.lines.specs.Lines.{header_line, record_lines, cannot_line}
-use Rattle.lines.specs.Code.{first_records}
-use Rattle.text.specs.Code.{cannot_text}
-use Rattle.buffers.proofs.Writing.{Writing, start_three, room-left, then, last, wrote_first}
+use Rattle.std.proofs.Common.{rules}
+use Rattle.lines.specs.Lines.{cannot_line}
+use Rattle.lines.proofs.Appending.{room-left, last, wrote_first}
+use Rattle.text.proofs.Parts.{lines-room, recorded}
 use Rattle.text.proofs.texts.cannot_text.Goals as goal
 
-pub number_line-requires : goal.number_line-requires
+pub record_lines-requires : goal.record_lines-requires
+record_lines-requires c = (c.requires.0.whole, lines-room c.new-text.ensures _ _ _ c.requires.1 c.header_line.ensures)
+
+pub line-requires : goal.line-requires
 unfolding cannot_line
-number_line-requires c =
-    let Left : List ℕ → ℕ → List ℕ → Type 0 = λ out next rest. Writing c.args.out.now 0 (cannot_text c.args.sheet.now c.args.count c.args.store.now) out next rest in
-    let lines : List ℕ = record_lines (first_records c.args.store.now c.args.count) in
-    let headed : Left c.header_line-next.new.out c.header_line-next.result (lines ++ cannot_line c.args.count) = then _ c.header_line-next.ensures (start_three _ (header_line c.args.sheet.now) (lines) (cannot_line c.args.count)) in
-    let recorded : Left c.record_lines-next.new.out c.record_lines-next.result (cannot_line c.args.count) = then _ c.record_lines-next.ensures (headed) in
-    let roomy : 0 + length (cannot_text c.args.sheet.now c.args.count c.args.store.now) ≤ length c.args.out.now = omega (arith, c.requires.1) in
-    room-left (recorded) (roomy)
+line-requires c = room-left (recorded c.new-text.ensures _ _ _ c.requires.1 c.header_line.ensures c.record_lines.ensures)
 
 pub returns : goal.returns
 unfolding cannot_line
 returns c =
-    let Left : List ℕ → ℕ → List ℕ → Type 0 = λ out next rest. Writing c.args.out.now 0 (cannot_text c.args.sheet.now c.args.count c.args.store.now) out next rest in
-    let lines : List ℕ = record_lines (first_records c.args.store.now c.args.count) in
-    let headed : Left c.header_line-next.new.out c.header_line-next.result (lines ++ cannot_line c.args.count) = then _ c.header_line-next.ensures (start_three _ (header_line c.args.sheet.now) (lines) (cannot_line c.args.count)) in
-    let recorded : Left c.record_lines-next.new.out c.record_lines-next.result (cannot_line c.args.count) = then _ c.record_lines-next.ensures (headed) in
-    wrote_first (last c.number_line.ensures (recorded)) c.requires.1
+    let whole = last c.line.ensures (recorded c.new-text.ensures _ _ _ c.requires.1 c.header_line.ensures c.record_lines.ensures) in
+    wrote_first c.new-text.ensures c.requires.1 whole (search (rules, whole.lent, c.new-text.ensures.lent)) c.len.ensures

@@ -1,22 +1,21 @@
 -- `texts::met_text` meets its contract: the first line, the records' lines and the last, one after the other.
-use Prim.Native.Nat.{ℕ}
-use mathlib.Core.List.{List, ◌++◌}
-use mathlib.Core.Path.{◌≡◌, ap}
-use lib.ListN.{take}
-use Rattle.sheet.specs.Format.{lot_count}
+use mathlib.Core.Path.{ap, ◌∙◌}
+use Rattle.std.proofs.Common.{rules}
 use Rattle.sheet.specs.declared.Header.{Header}
-use Rattle.lines.specs.Lines.{header_line, record_lines, met_line}
-use Rattle.lines.specs.Code.{first_records}
-use Rattle.text.specs.Code.{met_text}
-use Rattle.buffers.proofs.Writing.{Writing, start_three, then, last, wrote_first}
+use Rattle.lines.proofs.Appending.{room-left, last, wrote_first}
+use Rattle.text.proofs.Parts.{lines-room, recorded}
 use Rattle.text.proofs.texts.met_text.Goals as goal
+
+pub record_lines-requires : goal.record_lines-requires
+record_lines-requires c = (c.requires.0.whole, lines-room c.new-text.ensures _ _ _ c.requires.2 c.header_line.ensures)
+
+pub met_line-requires : goal.met_line-requires
+met_line-requires c =
+    rw (c.from.ensures ∙ ap (λ (h : Header). h.lots) c.header_of-h.ensures)
+    (room-left (recorded c.new-text.ensures _ _ _ c.requires.2 c.header_line.ensures c.record_lines.ensures))
 
 pub returns : goal.returns
 returns c =
-    let counted : c.header_of-h.result.lots ≡ lot_count c.args.sheet.now = ap (λ (h : Header). h.lots) c.header_of-h.ensures in
-    let Left : List ℕ → ℕ → List ℕ → Type 0 = λ out next rest. Writing c.args.out.now 0 (met_text c.args.sheet.now c.args.count c.args.grouping.now c.args.store.now) out next rest in
-    let met : List ℕ = met_line (take (lot_count c.args.sheet.now) c.args.grouping.now) in
-    let lines : List ℕ = record_lines (first_records c.args.store.now c.args.count) in
-    let headed : Left c.header_line-next.new.out c.header_line-next.result (lines ++ met) = then _ c.header_line-next.ensures (start_three _ (header_line c.args.sheet.now) (lines) (met)) in
-    let recorded : Left c.record_lines-next.new.out c.record_lines-next.result (met) = then _ c.record_lines-next.ensures (headed) in
-    wrote_first (last (rw (counted) at c.met_line.ensures) (recorded)) c.requires.2
+    let met = rw (c.from.ensures ∙ ap (λ (h : Header). h.lots) c.header_of-h.ensures) at c.met_line.ensures in
+    let whole = last met (recorded c.new-text.ensures _ _ _ c.requires.2 c.header_line.ensures c.record_lines.ensures) in
+    wrote_first c.new-text.ensures c.requires.2 whole (search (rules, whole.lent, c.new-text.ensures.lent)) c.len.ensures

@@ -1,9 +1,0 @@
--- `second_solver::table::never_reached`: the records left fall.
-use Prim.Native.Nat.{◌≤◌, ◌-◌}
-use Rattle.second_solver.proofs.table.never_reached.Given as goal
-
-abbrev pub invariant-loop-r : goal.invariant-loop-r
-invariant-loop-r l = l.r ≤ l.k
-
-abbrev pub decreases-loop-r : goal.decreases-loop-r
-decreases-loop-r l = l.k - l.r
