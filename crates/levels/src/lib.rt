@@ -32,7 +32,7 @@ fn copy_row(maps: &mut [u8], level: usize)
 {
     let from = ENTRIES * level;
     let to = from + ENTRIES;
-    // `copy_within` takes up to a tenth more of a check's instructions: it is a call for each row, and this loop goes together with the join's.
+    // Tried with `copy_within`: a check then took up to an eighth more instructions (docs/PERFORMANCE.md).
     for i in 0..ENTRIES {
         maps[to + i] = maps[from + i];
     }
