@@ -9,7 +9,6 @@ ghost use Rattle.lines.specs.Lines.{decimal, line, header_line, record_line, rec
 ghost use Rattle.lines.specs.Code.{first_records};
 ghost use Rattle.lines.specs.Appending.{Begins, Appends, HasRoom, text_len};
 
-use itoa::Buffer;
 use store::{NodeNumber, NodeRecord};
 
 // A text at the front of a lent buffer, and its length. What is behind it stays as it was lent.
@@ -117,7 +116,21 @@ impl<'a> Text<'a> {
         ensures { Appends self.old self.new (32 ∷ decimal x) }
     {
         self.word(b" ");
-        self.word(Buffer::new().format(x).as_bytes());
+        self.decimal(x);
+    }
+
+    // A number in decimal: the digits before its last, which are those of a tenth of it, and the last. The calls are as deep as the number has digits,
+    // ten at most.
+    fn decimal(&mut self, x: u32)
+        requires { HasRoom self.old (decimal x) }
+        ensures { Appends self.old self.new (decimal x) }
+    {
+        if x < 10 {
+            self.word(&[(48 + x) as u8]);
+        } else {
+            self.decimal(x / 10);
+            self.word(&[(48 + x % 10) as u8]);
+        }
     }
 
     // Bytes as they are.

@@ -39,7 +39,7 @@ line-length field (next ∷ fields) = length-append field (32 ∷ line next fiel
 
 -- Lots, conditions and records have five digits at most.
 five_digits : (x : ℕ) → x < 100000 → length (decimal x) ≤ 5
-five_digits x h = decimal_most 4 x h (omega arith)
+five_digits x h = decimal_most 4 x h
 
 pub record_line_most : (r : NodeRecord) → Fits r → length (record_line r) ≤ 24
 unfolding record_line
@@ -60,13 +60,13 @@ record_lines_most (r ∷ rs) h =
 pub refused_most : (check place : ℕ) → check < 10 ^ 10 → place < 10 ^ 10 → length (refused_line check place) ≤ text_room
 unfolding refused_line
 refused_most check place h k =
-    omega (arith, line-length refused_word (decimal check ∷ decimal place ∷ []), decimal_most 9 check h (omega arith), decimal_most 9 place k (omega arith))
+    omega (arith, line-length refused_word (decimal check ∷ decimal place ∷ []), decimal_most 9 check h, decimal_most 9 place k)
 
 -- Numbers below a thousand have three digits at most.
 numbers_most : (l : List ℕ) → ((i : ℕ) → i < length l → get_or l i 0 < 1000) → spaced (map decimal l) ≤ 4 * length l
 numbers_most [] h = omega arith
 numbers_most (x ∷ l) h =
-    omega (arith, decimal_most 2 x (h 0 (omega arith)) (omega (arith, h 0 (omega arith))), numbers_most l (λ i k. h (suc i) (omega arith)))
+    omega (arith, decimal_most 2 x (h 0 (omega arith)), numbers_most l (λ i k. h (suc i) (omega arith)))
 
 -- ---- the texts of an accepted sheet's search
 
