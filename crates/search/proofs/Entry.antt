@@ -15,11 +15,11 @@ use Rattle.sheet.specs.declared.refusal.Refusal.{Refusal}
 use Rattle.sheet.specs.Refusals.{check_of, place_of}
 use Rattle.sheet.proofs.Refusals.{refusal_at-numbers}
 use Rattle.search.specs.Answers.{Searched, search_answer}
-use Rattle.search.specs.Promises.{search_case, RefusedExactly, FullExactly, FullPlace, MetExactly, MetGrouping, MetZero, CannotExactly, CannotWhichever, CannotAny, CannotRefutes, CountBounded}
-use Rattle.search.specs.Limited.{case_under, RefusedExactlyUnder, FullExactlyUnder, MetExactlyUnder, MetGroupingUnder, MetZeroUnder, CannotExactlyUnder, CannotWhicheverUnder, CannotRefutesUnder}
+use Rattle.search.specs.Promises.{search_case, RefusedExactly, FullExactly, FullPlace, FullCase, MetExactly, MetGrouping, MetZero, CannotExactly, CannotWhichever, CannotAny, CannotRefutes, CountBounded}
+use Rattle.search.specs.Limited.{case_under, RefusedExactlyUnder, FullExactlyUnder, FullCaseUnder, MetExactlyUnder, MetGroupingUnder, MetZeroUnder, CannotExactlyUnder, CannotWhicheverUnder, CannotRefutesUnder}
 use Rattle.search.specs.Ends.{EndsAs}
-use Rattle.search.proofs.Promised.{refused-exactly, full_exactly, full_place, met-exactly, met-grouping, met_zero, cannot_exactly, cannot_whichever, cannot_any, cannot_refutes, count_bounded}
-use Rattle.search.proofs.Without.{unlimited_case, refused_plain, full_plain, met_plain, grouping_plain, zero_plain, cannot_plain, whichever_plain, any_plain, refutes_plain}
+use Rattle.search.proofs.Promised.{refused-exactly, full_exactly, full_place, full_told, met-exactly, met-grouping, met_zero, cannot_exactly, cannot_whichever, cannot_any, cannot_refutes, count_bounded}
+use Rattle.search.proofs.Without.{unlimited_case, refused_plain, full_plain, full_case_plain, met_plain, grouping_plain, zero_plain, cannot_plain, whichever_plain, any_plain, refutes_plain}
 
 module _ (limit : Limit) (s lent space : List ℕ) where
   -- The case and the buffers of a search whose checks before it come to this verdict.
@@ -42,6 +42,7 @@ module _ (limit : Limit) (s lent space : List ℕ) where
         refused : RefusedExactlyUnder limit (search_answer r) s lent space;
         full : FullExactlyUnder limit (search_answer r) s lent space;
         capacity : FullPlace (search_answer r) space;
+        filled : FullCaseUnder limit r s lent space;
         met : MetExactlyUnder limit (search_answer r) s;
         meets : MetGroupingUnder limit (search_answer r) s grouping';
         zero : MetZeroUnder limit (search_answer r) s grouping';
@@ -66,6 +67,7 @@ module _ (limit : Limit) (s lent space : List ℕ) where
             refused = refused-exactly limit s lent space a told;
             full = full_exactly limit s lent space a told;
             capacity = full_place limit s lent space a told;
+            filled = full_told limit s lent space a told r e.answered refl;
             met = met-exactly limit s lent space a told;
             meets = met-grouping limit s lent space a told grouping' e.grouped;
             zero = met_zero limit s lent space a told grouping' e.grouped;
@@ -92,6 +94,7 @@ module _ (s lent space : List ℕ) where
         refused : RefusedExactly (search_answer r) s lent space;
         full : FullExactly (search_answer r) s lent space;
         capacity : FullPlace (search_answer r) space;
+        filled : FullCase r s lent space;
         met : MetExactly (search_answer r) s;
         meets : MetGrouping (search_answer r) s grouping';
         zero : MetZero (search_answer r) s grouping';
@@ -115,6 +118,7 @@ module _ (s lent space : List ℕ) where
         refused = refused_plain s lent space a all.refused;
         full = full_plain s lent space a all.full;
         capacity = all.capacity;
+        filled = full_case_plain s lent space r all.filled;
         met = met_plain s a all.met;
         meets = grouping_plain s a grouping' all.meets;
         zero = zero_plain s a grouping' all.zero;

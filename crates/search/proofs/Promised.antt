@@ -10,6 +10,8 @@ use borrow.Author.Tests.{ltb-true, ltb-false, lt-ltb, le-ltb}
 use lib.Dec.{ltb}
 use lib.ListN.{length, drop}
 use lib.Seq.{take_at}
+use Rattle.std.specs.Prelude.{Err}
+use Rattle.sheet.specs.declared.refusal.Refusal.TheVariants.{FullStore}
 use Rattle.sheet.specs.Verdicts.{Verdict, Passes, Refuses}
 use Rattle.sheet.specs.Format.{lowest_lot, lot_count}
 use Rattle.sheet.specs.Checks.{or_else}
@@ -33,8 +35,9 @@ use Rattle.outcome.proofs.Fitting.{bytes_count}
 use Rattle.outcome.proofs.Grouping as left
 use Rattle.refutation.specs.Refutation.{RefutesUnder, list_verdict_under, check_answer_under}
 use Rattle.outcome.proofs.Own.{own_grounds_pass}
-use Rattle.search.specs.Promises.{FullPlace, CountBounded}
-use Rattle.search.specs.Limited.{RefusedExactlyUnder, FullExactlyUnder, MetExactlyUnder, MetGroupingUnder, MetZeroUnder, CannotExactlyUnder, CannotWhicheverUnder, CannotAnyUnder, CannotRefutesUnder}
+use Rattle.search.specs.Answers.{Searched, search_answer}
+use Rattle.search.specs.Promises.{answer_case, FullPlace, CountBounded}
+use Rattle.search.specs.Limited.{case_under, RefusedExactlyUnder, FullExactlyUnder, FullCaseUnder, MetExactlyUnder, MetGroupingUnder, MetZeroUnder, CannotExactlyUnder, CannotWhicheverUnder, CannotAnyUnder, CannotRefutesUnder}
 
 -- The four results, each with what is known where it is the search's.
 data Ends (limit : Limit) (s grouping store : List ℕ) : Result → Type 0 where
@@ -143,6 +146,18 @@ module _ (limit : Limit) (s grouping store : List ℕ) (a : Answer) (e : a ≡ (
       go result (ends_full v more) place q = cc
       go result (ends-met v fits m) place q = absurd (refused-answered (sym q))
       go result (ends_cannot v fits m) place q = absurd (refused-answered (sym q))
+
+  -- The case of an answer that is so.
+  pub full_told : (r : Searched) → r ≡ case_under limit s grouping store → search_answer r ≡ a → FullCaseUnder limit r s grouping store
+  unfolding case_under result_of
+  full_told r case told most = (full_by, λ full. case ∙ ap answer_case full)
+    where
+      full_by : r ≡ Err (FullStore most) → result_of (verdict_under limit s grouping) (capacity store) (tree_of limit s) ≡ full_result most
+      full_by is =
+          let nine : a ≡ refused 9 most = sym told ∙ ap search_answer is in
+          let whole : most ≡ capacity store = full_place most nine in
+          let (passes, more) = full_exactly.0 (nine ∙ ap (refused 9) whole) in
+          rw (passes, lt-ltb (capacity store) (node_count (tree_of limit s)) more) (ap full_result (sym whole))
 
   -- ---- met
 

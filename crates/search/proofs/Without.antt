@@ -7,8 +7,9 @@ use Rattle.limit.specs.Meaning.{unlimited}
 use Rattle.outcome.specs.Limited.{verdict_under}
 use Rattle.outcome.proofs.Checked.{unlimited_verdict, unlimited-searched, unlimited_zero}
 use Rattle.equality.specs.Evaluator.{grouping_verdict_with}
-use Rattle.search.specs.Promises.{search_case, RefusedExactly, FullExactly, MetExactly, MetGrouping, MetZero, CannotExactly, CannotWhichever, CannotAny, CannotRefutes}
-use Rattle.search.specs.Limited.{case_under, RefusedExactlyUnder, FullExactlyUnder, MetExactlyUnder, MetGroupingUnder, MetZeroUnder, CannotExactlyUnder, CannotWhicheverUnder, CannotAnyUnder, CannotRefutesUnder}
+use Rattle.search.specs.Answers.{Searched}
+use Rattle.search.specs.Promises.{search_case, RefusedExactly, FullExactly, FullCase, MetExactly, MetGrouping, MetZero, CannotExactly, CannotWhichever, CannotAny, CannotRefutes}
+use Rattle.search.specs.Limited.{case_under, RefusedExactlyUnder, FullExactlyUnder, FullCaseUnder, MetExactlyUnder, MetGroupingUnder, MetZeroUnder, CannotExactlyUnder, CannotWhicheverUnder, CannotAnyUnder, CannotRefutesUnder}
 
 -- The case is that of the search without a limit.
 pub unlimited_case : (s grouping store : List ℕ) → case_under unlimited s grouping store ≡ search_case s grouping store
@@ -21,6 +22,9 @@ module _ (s grouping store : List ℕ) where
 
   pub full_plain : (a : Answer) → FullExactlyUnder unlimited a s grouping store → FullExactly a s grouping store
   full_plain a h = rw (unlimited_verdict s grouping) at h
+
+  pub full_case_plain : (r : Searched) → FullCaseUnder unlimited r s grouping store → FullCase r s grouping store
+  full_case_plain r h = rw (unlimited_verdict s grouping) at h
 
 module _ (s : List ℕ) where
   pub met_plain : (a : Answer) → MetExactlyUnder unlimited a s → MetExactly a s

@@ -1,5 +1,6 @@
 -- What the search under a limit promises beside its equations (document 02, job 7): as the search without one, of the assignments that keep the limit.
-use Rattle.std.specs.Prelude.{ℕ, ◌*◌, ◌<◌, List, ◌↔◌, ◌≡◌, take}
+use Rattle.std.specs.Prelude.{ℕ, ◌*◌, ◌<◌, List, ◌↔◌, ◌≡◌, take, Err}
+use Rattle.sheet.specs.declared.refusal.Refusal.TheVariants.{FullStore}
 use Rattle.sheet.specs.Verdicts.{Passes, Refuses}
 use Rattle.sheet.specs.Format.{lowest_lot, lot_count}
 use Rattle.sheet.specs.Answers.{Answer, refused, answered}
@@ -7,7 +8,7 @@ use Rattle.equality.specs.Meaning.{Meets}
 use Rattle.equality.specs.Search.{node_count}
 use Rattle.limit.specs.Meaning.{Limit, up_to, Keeps, CanBeMetUnder, CannotBeMetUnder}
 use Rattle.store.specs.Records.{record_length, capacity}
-use Rattle.outcome.specs.Outcome.{Outcome, result_of}
+use Rattle.outcome.specs.Outcome.{Outcome, full_result, result_of}
 use Rattle.outcome.specs.Limited.{tree_of, verdict_under, search_verdict_under, outcome_under, GroupingMeetsUnder, ZeroGroupUnder}
 use Rattle.refutation.specs.Refutation.{check_answer_under}
 use Rattle.search.specs.Answers.{Searched}
@@ -37,6 +38,11 @@ RefusedExactlyUnder limit a s grouping store =
 abbrev pub FullExactlyUnder : Limit → Answer → List ℕ → List ℕ → List ℕ → Type 0
 FullExactlyUnder limit a s grouping store =
     a ≡ refused 9 (capacity store) ↔ (verdict_under limit s grouping ≡ Passes) × (capacity store < node_count (tree_of limit s))
+
+-- The case is `FullStore S` exactly where the search's result is full at S, and not where a check before the search refuses.
+abbrev pub FullCaseUnder : Limit → Searched → List ℕ → List ℕ → List ℕ → Type 0
+FullCaseUnder limit r s grouping store =
+    (most : ℕ) → (r ≡ Err (FullStore most) ↔ result_of (verdict_under limit s grouping) (capacity store) (tree_of limit s) ≡ full_result most)
 
 -- ---- met: 1, and the count
 

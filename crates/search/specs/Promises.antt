@@ -39,6 +39,12 @@ abbrev pub FullExactly : Answer → List ℕ → List ℕ → List ℕ → Type 
 FullExactly a s grouping store =
     a ≡ refused 9 (capacity store) ↔ (grouping_verdict s grouping ≡ Passes) × (capacity store < node_count (search_tree (conditions s)))
 
+-- By document 01's numbers alone a full store and a refusal by 9 before the search would be one answer, and one refusal. The case tells them apart: it is
+-- `FullStore S` exactly where the search's result is full at S.
+abbrev pub FullCase : Searched → List ℕ → List ℕ → List ℕ → Type 0
+FullCase r s grouping store =
+    (most : ℕ) → (r ≡ Err (FullStore most) ↔ result_of (grouping_verdict s grouping) (capacity store) (search_tree (conditions s)) ≡ full_result most)
+
 -- "during the search | 9 | store full | S": no other place is given.
 abbrev pub FullPlace : Answer → List ℕ → Type 0
 FullPlace a store = (place : ℕ) → a ≡ refused 9 place → place ≡ capacity store

@@ -16,8 +16,8 @@ ghost use Rattle.outcome.specs.Outcome.{result_of, search_outcome};
 ghost use Rattle.outcome.specs.Limited.{tree_of};
 ghost use Rattle.visit.specs.Limits.{pairs_room};
 ghost use Rattle.search.specs.Answers.{search_answer};
-ghost use Rattle.search.specs.Promises.{search_case, RefusedExactly, FullExactly, FullPlace, MetExactly, MetGrouping, MetZero, CannotExactly, CannotWhichever, CannotRefutes, CountBounded};
-ghost use Rattle.search.specs.Limited.{limited_case, limited_outcome, RefusedExactlyUnder, FullExactlyUnder, MetExactlyUnder, MetGroupingUnder, MetZeroUnder, CannotExactlyUnder, CannotWhicheverUnder, CannotRefutesUnder};
+ghost use Rattle.search.specs.Promises.{search_case, RefusedExactly, FullExactly, FullPlace, FullCase, MetExactly, MetGrouping, MetZero, CannotExactly, CannotWhichever, CannotRefutes, CountBounded};
+ghost use Rattle.search.specs.Limited.{limited_case, limited_outcome, RefusedExactlyUnder, FullExactlyUnder, FullCaseUnder, MetExactlyUnder, MetGroupingUnder, MetZeroUnder, CannotExactlyUnder, CannotWhicheverUnder, CannotRefutesUnder};
 ghost use Rattle.search.specs.Ends.{EndsAs};
 
 use sheet::Refusal;
@@ -114,6 +114,7 @@ pub fn search(sheet: &[u8], grouping: &mut [u8], store: &mut [u8]) -> Result<Fou
     ensures refused { RefusedExactly (search_answer result) sheet.now grouping.old store.old }
     ensures full { FullExactly (search_answer result) sheet.now grouping.old store.old }
     ensures capacity { FullPlace (search_answer result) store.old }
+    ensures filled { FullCase result sheet.now grouping.old store.old }
     ensures met { MetExactly (search_answer result) sheet.now }
     ensures meets { MetGrouping (search_answer result) sheet.now grouping.new }
     ensures zero { MetZero (search_answer result) sheet.now grouping.new }
@@ -142,6 +143,7 @@ pub fn search_limited(
     ensures refused { RefusedExactlyUnder (up_to limit) (search_answer result) sheet.now grouping.old store.old }
     ensures full { FullExactlyUnder (up_to limit) (search_answer result) sheet.now grouping.old store.old }
     ensures capacity { FullPlace (search_answer result) store.old }
+    ensures filled { FullCaseUnder (up_to limit) result sheet.now grouping.old store.old }
     ensures met { MetExactlyUnder (up_to limit) (search_answer result) sheet.now }
     ensures meets { MetGroupingUnder (up_to limit) (search_answer result) sheet.now grouping.new }
     ensures zero { MetZeroUnder (up_to limit) (search_answer result) sheet.now grouping.new }
