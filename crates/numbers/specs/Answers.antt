@@ -1,8 +1,6 @@
 -- An answer as four numbers, for callers in C and Rust.
 use Rattle.std.specs.Prelude.{ℕ}
 use Rattle.sheet.specs.Answers.{Answer, refused, answered}
-use Rattle.sheet.specs.declared.refusal.Refusal.{Refusal}
-use Rattle.sheet.specs.Refusals.{check_of, place_of}
 use Rattle.numbers.specs.declared.Numbers.{Numbers}
 
 -- A refusal is its check, which is at least 1, and its place; an answer is 0 and its values.
@@ -14,7 +12,3 @@ numbers_of (answered first second third) = record { check = 0; first = first; se
 abbrev pub merge_numbers : Answer → ℕ → Numbers
 merge_numbers (refused check place) sheet = record { check = check; first = place; second = sheet; third = 0 }
 merge_numbers (answered first second third) sheet = numbers_of (answered first second third)
-
--- A refusal's check and place, and a number behind them.
-abbrev pub refusal_numbers : Refusal → ℕ → Numbers
-refusal_numbers r sheet = record { check = check_of r; first = place_of r; second = sheet; third = 0 }

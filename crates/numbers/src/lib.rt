@@ -2,11 +2,11 @@
 #![tactic(auto)]
 
 ghost use Rattle.std.specs.Prelude.{◌≡◌};
-ghost use Rattle.sheet.specs.Answers.{Answer, answered, result_answer};
+ghost use Rattle.sheet.specs.Answers.{Answer, refused, answered, result_answer};
 ghost use Rattle.evaluator.specs.Answers.{unmet_answer};
 ghost use Rattle.search.specs.Answers.{found_answer};
 ghost use Rattle.merge.specs.Answers.{merged_answer, sheet_refused};
-ghost use Rattle.numbers.specs.Answers.{numbers_of, refusal_numbers, merge_numbers};
+ghost use Rattle.numbers.specs.Answers.{numbers_of, merge_numbers};
 
 use merge::MergeRefusal;
 use search::Found;
@@ -96,13 +96,13 @@ impl Values for () {
     }
 }
 
-// A refusal is its check and its place; a sheet's number stands behind them where a merge was refused when it read that.
-fn refused(refusal: Refusal, sheet: u32) -> Numbers
-    ensures { result ≡ refusal_numbers refusal sheet }
+// A refusal is its check and its place, whichever they are; a sheet's number stands behind them where a merge was refused when it read that, else 0.
+pub fn refused_in(check: u32, place: u32, sheet: u32) -> Numbers
+    ensures { result ≡ merge_numbers (refused check place) sheet }
 {
     Numbers {
-        check: refusal.check(),
-        first: refusal.place(),
+        check,
+        first: place,
         second: sheet,
         third: 0,
     }
@@ -114,7 +114,7 @@ impl<T: Values> From<Result<T, Refusal>> for Numbers {
     fn from(answer: Result<T, Refusal>) -> Numbers {
         match answer {
             Ok(values) => values.numbers(),
-            Err(refusal) => refused(refusal, 0),
+            Err(refusal) => refused_in(refusal.check(), refusal.place(), 0),
         }
     }
 }
@@ -125,9 +125,9 @@ impl From<Result<u32, MergeRefusal>> for Numbers {
     fn from(answer: Result<u32, MergeRefusal>) -> Numbers {
         match answer {
             Ok(length) => length.numbers(),
-            Err(MergeRefusal::First(refusal)) => refused(refusal, 1),
-            Err(MergeRefusal::Second(refusal)) => refused(refusal, 2),
-            Err(MergeRefusal::Both(refusal)) => refused(refusal, 0),
+            Err(MergeRefusal::First(refusal)) => refused_in(refusal.check(), refusal.place(), 1),
+            Err(MergeRefusal::Second(refusal)) => refused_in(refusal.check(), refusal.place(), 2),
+            Err(MergeRefusal::Both(refusal)) => refused_in(refusal.check(), refusal.place(), 0),
         }
     }
 }
