@@ -1,5 +1,5 @@
 -- Where in a condition a node's terms are looked at, or after which pair of classes it is; this file states nothing of document 01.
-use Rattle.std.specs.Prelude.{ℕ, ◌-◌, ◌≤◌, ◌<◌, List, ◌++◌, ◌≡◌, length, set}
+use Rattle.std.specs.Prelude.{ℕ, ◌-◌, ◌≤◌, ◌<◌, cond, eqb, List, ◌++◌, ◌≡◌, length, set}
 use Rattle.sheet.specs.Format.{head_at}
 use Rattle.sheet.specs.Inner.{OnChain}
 use Rattle.sheet.specs.Conditions.{Term, terms_from, condition_at, conditions}
@@ -57,16 +57,16 @@ Rises (After x y) = x.0 < y.0
 
 -- ---- the settled levels, and the condition that a place is within
 
--- It has one,
+-- It has one, where it isn't condition 0, which is none,
 abbrev pub HasLevel : Place → List ℕ → Type 0
 HasLevel Scan levels = Unit {0}
-HasLevel (Within c r) levels = (1 ≤ c.0) × (c.0 ≤ length levels)
+HasLevel (Within c r) levels = c.0 ≤ length levels
 HasLevel Nowhere levels = Unit {0}
 HasLevel (After x y) levels = Unit {0}
 
 -- which is noted.
 abbrev pub with_level : Place → ℕ → List ℕ → List ℕ
 with_level Scan level levels = levels
-with_level (Within c r) level levels = set levels (c.0 - 1) level
+with_level (Within c r) level levels = cond (eqb c.0 0) levels (set levels (c.0 - 1) level)
 with_level Nowhere level levels = levels
 with_level (After x y) level levels = levels

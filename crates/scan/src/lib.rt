@@ -77,13 +77,15 @@ pub fn scan(sheet: &[u8], m: u16, map: Classes, levels: &mut [u16], level: u16) 
     }
 }
 
-// Notes that the condition that a place is within is settled at a level. Nothing is noted for a place that is within none.
+// Notes that the condition that a place is within is settled at a level. Nothing is noted for a place that is within none; condition 0 is none.
 pub fn settle(levels: &mut [u16], place: Place, level: u16)
     requires { HasLevel place levels.old }
     ensures { levels.new ≡ with_level place level levels.old }
 {
     if let Place::Within(c, _) = place {
-        levels[(c.0 - 1) as usize] = level;
+        if c.0 != 0 {
+            levels[(c.0 - 1) as usize] = level;
+        }
     }
 }
 

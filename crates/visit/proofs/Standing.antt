@@ -1,10 +1,11 @@
 -- The path of a visit, as its map and its pairs represent it: what each branch of a split makes of it, and what is open, which falls.
 use Prim.Native.Nat.{ℕ, zero, suc, ◌+◌, ◌*◌, ◌≤◌, ◌<◌}
-use mathlib.Core.Bool.{Bool, ◌||◌}
+use mathlib.Core.Bool.{Bool, false, ◌||◌}
 use mathlib.Core.List.{List, [], ◌∷◌}
 use mathlib.Core.Path.{◌≡◌, refl, sym, ap, ap₂, fun_ext, ◌∙◌}
 use native.Mathlib.Omega.{arith}
 use Rattle.std.specs.Prelude.{Option}
+use borrow.Author.Tests.{ne_eqb}
 use lib.Dec.{eqb}
 use lib.ListN.{length, get_or, set, take, replicate, length-set, length-replicate}
 use lib.Seq.{length-take-le}
@@ -72,9 +73,7 @@ within-rises s (After x y) within = within
 -- The condition that a split's apart branch goes on in is one of the sheet's, so it has a level;
 pub has-level : (limit : Limit) (n : ℕ) (s levels : List ℕ) (ds : Decisions) → condition_count s ≤ length levels → (p : Place) → Resumes limit n s p ds → HasLevel p levels
 has-level limit n s levels ds sized Scan w = tt
-has-level limit n s levels ds sized (Within c r) w =
-    let number = taken-number ds s c.0 (condition_at s c.0) w.condition in
-    (number.0, omega (arith, number.1, sized))
+has-level limit n s levels ds sized (Within c r) w = omega (arith, (taken-number ds s c.0 (condition_at s c.0) w.condition).1, sized)
 has-level limit n s levels ds sized Nowhere w = tt
 has-level limit n s levels ds sized (After x y) w = tt
 
@@ -89,7 +88,9 @@ module _ (limit : Limit) (n : ℕ) (s : List ℕ) (on : Split) (ds : Decisions) 
   settled-both Scan w = (joined_settled (classes ds) s levels on.a.0 on.b.0 level l, later_none levels (level + 1))
   settled-both (Within c r) w =
       let taken-first = sym (taken-apart ds on.a.0 on.b.0 1 (conditions s)) ∙ w.condition in
-      let here = sym (under_takes limit n (conditions s) ds c.0 (condition_at s c.0) taken-first) ∙ e in (
+      let here = sym (under_takes limit n (conditions s) ds c.0 (condition_at s c.0) taken-first) ∙ e in
+      let some : eqb c.0 0 ≡ false = ne_eqb c.0 0 (λ none. omega (arith, none, (taken-number ds s c.0 (condition_at s c.0) taken-first).0)) in
+      rw some (
         same-settled ds s levels c.0 on.a.0 on.b.0 level l here taken-first,
         same_later ds s levels c.0 on.a.0 on.b.0 level l here taken-first,
       )
