@@ -6,6 +6,8 @@
 // buffer after the call. The program compares nothing itself.
 #![tactic(auto)]
 
+ghost use Rattle.std.specs.Prelude.{◌≤◌, length, IfOk};
+
 use numbers::Numbers;
 use std::fs::File;
 use std::io::{BufReader, Bytes, Read, Write};
@@ -92,10 +94,9 @@ fn byte<R: Read + Drop>(from: &mut Bytes<R>) -> io::Result<u8> {
 }
 
 // A buffer's length and its bytes, put at the start of a place for them; these, or none where it has no room for them.
-fn buffer<'a, R: Read + Drop>(
-    from: &mut Bytes<R>,
-    place: &'a mut [u8],
-) -> io::Result<&'a mut [u8]> {
+fn buffer<'a, R: Read + Drop>(from: &mut Bytes<R>, place: &'a mut [u8]) -> io::Result<&'a mut [u8]>
+    ensures { IfOk result (λ part. length part.now ≤ length place.entry.now) }
+{
     let n = two_bytes(from)?;
     two_bytes(from)?;
     let Some(bytes) = place.get_mut(..n) else {
