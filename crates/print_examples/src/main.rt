@@ -25,14 +25,20 @@ fn print_all(cases: &[u8], out: &mut impl Write) -> io::Result<()> {
     Ok(())
 }
 
-// A line: its label, and the text of the sheet that it has in hexadecimal.
+// A line: its label, and the text of its sheet.
 fn print_case(line: &[u8], out: &mut impl Write) -> io::Result<()> {
     let label = raw::find(line, 0, line.len(), b':');
     out.write_all(&line[..label])?;
     out.write_all(b"\n")?;
+    print_sheet(&line[label..], out)
+}
+
+// The text of the sheet that a line has in hexadecimal. A function of its own, so that the room for the text is zeroed once a line: declared behind the `?`s of
+// `print_case`, it is zeroed when that begins, too.
+fn print_sheet(digits: &[u8], out: &mut impl Write) -> io::Result<()> {
     let mut sheet = [0; 2048];
     let mut printed = [0; text::TEXT_ROOM];
-    let n = hexadecimal::decode(&line[label..], &mut sheet);
+    let n = hexadecimal::decode(digits, &mut sheet);
     let len = text::print(&sheet[..n], &mut printed);
     out.write_all(&printed[..len])
 }

@@ -102,7 +102,31 @@ pub struct Record {
     pub next: u16,
 }
 
+// Its bytes are looked at without asking for each whether it is there, where the whole record is: records are what is read most.
+#[inline]
 pub fn record_at(bytes: &[u8], at: usize) -> Record
+    ensures kind { result.kind ≡ slice_index bytes.now at }
+    ensures spare { result.spare ≡ slice_index bytes.now (at + 1) }
+    ensures first { result.first ≡ number bytes.now (at + 2) }
+    ensures second { result.second ≡ number bytes.now (at + 4) }
+    ensures next { result.next ≡ number bytes.now (at + 6) }
+{
+    if at < bytes.len() && 8 <= bytes.len() - at {
+        Record {
+            kind: bytes[at],
+            spare: bytes[at + 1],
+            first: u16::from_le_bytes([bytes[at + 2], bytes[at + 3]]),
+            second: u16::from_le_bytes([bytes[at + 4], bytes[at + 5]]),
+            next: u16::from_le_bytes([bytes[at + 6], bytes[at + 7]]),
+        }
+    } else {
+        cut_record(bytes, at)
+    }
+}
+
+// A record of which the bytes hold a part, or nothing.
+#[inline(never)]
+fn cut_record(bytes: &[u8], at: usize) -> Record
     ensures kind { result.kind ≡ slice_index bytes.now at }
     ensures spare { result.spare ≡ slice_index bytes.now (at + 1) }
     ensures first { result.first ≡ number bytes.now (at + 2) }

@@ -29,14 +29,15 @@ fn main(rt: HostRuntime) -> io::Result<()> {
 
 fn cases(bytes: &[u8], out: &mut impl Write) -> io::Result<()> {
     let mut text = Text { rest: bytes };
+    let mut room = [0; plain::ROOM];
     while !text.rest.is_empty() {
-        case(&mut text, out)?;
+        case(&mut text, &mut room, out)?;
     }
     Ok(())
 }
 
-// A case: its label, and what the reader answers to its sheet, where there is room for that.
-fn case(text: &mut Text, out: &mut impl Write) -> io::Result<()>
+// A case: its label, and what the reader answers to its sheet, which is made in the room, where there is room for that.
+fn case(text: &mut Text, room: &mut [u8; plain::ROOM], out: &mut impl Write) -> io::Result<()>
     requires { 0 < length text.old.rest.now }
     ensures { length text.new.rest.now < length text.old.rest.now }
 {
@@ -44,21 +45,21 @@ fn case(text: &mut Text, out: &mut impl Write) -> io::Result<()>
     let line = text.until(|byte| *byte == b'\n');
     text.next();
     out.write_all(label)?;
-    match sheet_of(Text { rest: line }).bytes() {
+    match sheet_of(Text { rest: line }, room).bytes() {
         Some(bytes) => say(reader::read(bytes), out),
         None => Ok(()),
     }
 }
 
 // The sheet that a line describes from its colon on.
-fn sheet_of(mut line: Text) -> Sheet {
+fn sheet_of<'a>(mut line: Text, room: &'a mut [u8; plain::ROOM]) -> Sheet<'a> {
     if line.next().is_none() {
-        return Sheet::empty();
+        return Sheet::empty(room);
     }
     let n = line.number();
     let m = line.number();
     let k = line.number();
-    let mut sheet = Sheet::plain(n, m, k);
+    let mut sheet = Sheet::plain(room, n, m, k);
     line.until(|byte| *byte != b' ');
     while let Some(letter) = line.next() {
         let place = line.number();

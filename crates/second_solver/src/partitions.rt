@@ -27,7 +27,7 @@ struct Names {
 
 impl Names {
     // None where there are more than are parted. A record is vacant if its sign is 0: in an accepted sheet that tells.
-    fn of(sheet: Sheet) -> Option<Names> {
+    fn of(sheet: &Sheet) -> Option<Names> {
         let mut names = Names {
             lots: [0; MOST_LOTS],
             count: 0,
@@ -77,7 +77,7 @@ impl Way {
     }
 
     // Whether some term of a condition is true.
-    fn makes_some_true(&self, sheet: Sheet, head: u16) -> bool {
+    fn makes_some_true(&self, sheet: &Sheet, head: u16) -> bool {
         let mut r = head;
         for _ in 0..MOST_RECORDS {
             if r == 0 {
@@ -93,7 +93,7 @@ impl Way {
     }
 
     // Whether every condition is met: every way meets one that is withdrawn.
-    fn meets(&self, sheet: Sheet) -> bool {
+    fn meets(&self, sheet: &Sheet) -> bool {
         (0..sheet.conditions).all(|c| {
             let head = sheet.head(c);
             head == 0 || self.makes_some_true(sheet, head)
@@ -120,11 +120,11 @@ impl Way {
 pub fn verdict(bytes: &[u8]) -> Option<bool> {
     let sheet = Sheet::of(bytes);
     let mut way = Way {
-        names: Names::of(sheet)?,
+        names: Names::of(&sheet)?,
         groups: [0; MOST_LOTS],
     };
     for _ in 0..WAYS {
-        if way.meets(sheet) {
+        if way.meets(&sheet) {
             return Some(true);
         }
         if !way.advance() {

@@ -23,11 +23,13 @@ impl<'a> Sheet<'a> {
     }
 
     // The head of the condition that has c before it.
-    pub fn head(self, c: u16) -> u16 {
+    #[inline]
+    pub fn head(&self, c: u16) -> u16 {
         raw::number_at(self.bytes, raw::head_field(c))
     }
 
-    pub fn record(self, r: u16) -> Record {
+    #[inline]
+    pub fn record(&self, r: u16) -> Record {
         raw::record_at(self.bytes, raw::term_field(self.conditions, r, 0))
     }
 }

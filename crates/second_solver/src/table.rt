@@ -19,7 +19,7 @@ fn refuse(check: u32, place: Option<u16>) -> Result<(), Refusal> {
 }
 
 // Check 4: the first condition whose head is above k.
-fn head_above(sheet: Sheet) -> Option<u16> {
+fn head_above(sheet: &Sheet) -> Option<u16> {
     (1..=sheet.conditions).find(|c| sheet.records < sheet.head(*c - 1))
 }
 
@@ -29,14 +29,14 @@ fn vacant(term: Record) -> bool {
 }
 
 // Of check 5: whether sign, spare, lots and next of a record are in range. A lot is one of 0 to n.
-fn in_range(sheet: Sheet, term: Record) -> bool {
+fn in_range(sheet: &Sheet, term: Record) -> bool {
     let known = term.kind == 1 || term.kind == 2;
     let named = term.first <= sheet.lots && term.second <= sheet.lots;
     known && term.spare == 0 && named && term.next <= sheet.records
 }
 
 // Check 5: the first record that is neither in range nor vacant.
-fn out_of_range(sheet: Sheet) -> Option<u16> {
+fn out_of_range(sheet: &Sheet) -> Option<u16> {
     (1..=sheet.records).find(|r| {
         let term = sheet.record(*r);
         !in_range(sheet, term) && !vacant(term)
@@ -44,7 +44,7 @@ fn out_of_range(sheet: Sheet) -> Option<u16> {
 }
 
 // Checks 17 and 6, where the chains are walked one after the other: the first record that is vacant, or that is reached a second time.
-fn walk(sheet: Sheet) -> Result<Reached, Refusal> {
+fn walk(sheet: &Sheet) -> Result<Reached, Refusal> {
     let mut reached = [false; 1025];
     for c in 0..sheet.conditions {
         walk_chain(sheet, sheet.head(c), &mut reached)?;
@@ -53,7 +53,7 @@ fn walk(sheet: Sheet) -> Result<Reached, Refusal> {
 }
 
 // Each step marks a record or refuses, so one more step than there are records is enough.
-fn walk_chain(sheet: Sheet, head: u16, reached: &mut Reached) -> Result<(), Refusal> {
+fn walk_chain(sheet: &Sheet, head: u16, reached: &mut Reached) -> Result<(), Refusal> {
     let mut r = head;
     for _ in 0..=MOST_RECORDS {
         if r == 0 {
@@ -75,12 +75,12 @@ fn is_reached(reached: &Reached, r: u16) -> bool {
 }
 
 // Check 7: the first record that is neither reached nor vacant.
-fn never_reached(sheet: Sheet, reached: &Reached) -> Option<u16> {
+fn never_reached(sheet: &Sheet, reached: &Reached) -> Option<u16> {
     (1..=sheet.records).find(|r| !is_reached(reached, *r) && !vacant(sheet.record(*r)))
 }
 
 // The first check that refuses, of 1 to 8 and 17, where the grouping has so much room.
-fn checked(sheet: Sheet, room: u16) -> Result<(), Refusal> {
+fn checked(sheet: &Sheet, room: u16) -> Result<(), Refusal> {
     let length = 6 + 2 * (sheet.conditions as usize) + 8 * (sheet.records as usize);
     refuse(1, (sheet.bytes.len() < 6).then_some(0))?;
     refuse(2, (128 < sheet.lots).then_some(1))?;
@@ -97,7 +97,7 @@ fn checked(sheet: Sheet, room: u16) -> Result<(), Refusal> {
 // Whether a service that refuses so, or doesn't, does as the table says, by number and place, where a grouping of so many bytes is lent; what refuses by none
 // of checks 1 to 8 and 17 is right where none of them refuses.
 pub fn agrees(bytes: &[u8], room: u16, refusal: Option<Refusal>) -> bool {
-    let stated = checked(Sheet::of(bytes), room).err();
+    let stated = checked(&Sheet::of(bytes), room).err();
     match refusal {
         Some(given) if matches!(given.check, 1..=8 | 17) => stated == refusal,
         _ => stated.is_none(),
