@@ -119,21 +119,7 @@ pub fn record_at(bytes: &[u8], at: usize) -> Record
             second: u16::from_le_bytes([bytes[at + 4], bytes[at + 5]]),
             next: u16::from_le_bytes([bytes[at + 6], bytes[at + 7]]),
         }
-    } else {
-        cut_record(bytes, at)
-    }
-}
-
-// A record of which the bytes hold a part, or nothing.
-#[inline(never)]
-fn cut_record(bytes: &[u8], at: usize) -> Record
-    ensures kind { result.kind ≡ slice_index bytes.now at }
-    ensures spare { result.spare ≡ slice_index bytes.now (at + 1) }
-    ensures first { result.first ≡ number bytes.now (at + 2) }
-    ensures second { result.second ≡ number bytes.now (at + 4) }
-    ensures next { result.next ≡ number bytes.now (at + 6) }
-{
-    if at < bytes.len() {
+    } else if at < bytes.len() {
         Record {
             kind: byte_at(bytes, at),
             spare: byte_at(bytes, at + 1),
