@@ -1,4 +1,4 @@
--- A number's digits: fuel never decides them, how they begin and end, and how many they are.
+-- A number's digits: fuel never decides them, how they begin and end, that they are those that std writes, and how many they are.
 use Prim.Native.Nat.{ℕ, zero, suc, ◌+◌, ◌-◌, ◌/◌, ◌%◌, ◌^◌, ◌<◌, ◌≤◌}
 use mathlib.Core.Bool.{Bool, true, false}
 use mathlib.Core.List.{List, [], ◌∷◌, ◌++◌}
@@ -8,6 +8,9 @@ use native.Mathlib.Nat.{pow-suc}
 use borrow.Author.Tests.{ltb-false, lt-ltb, le-ltb}
 use lib.Dec.{ltb}
 use lib.ListN.{length, length-append}
+use Rattle.std.specs.Fmt.{decimal as std_decimal}
+use Rattle.std.proofs.lemmas.Fmt.{AppendsLastDigit, decimal_from_appends, length-decimal-le_succ}
+use Rattle.std.proofs.Common.{rules}
 use Rattle.lines.specs.Lines.{digits, decimal}
 
 -- One step of the definition, by whether the number is below ten.
@@ -46,6 +49,16 @@ decimal_more x h =
     let fuel : x ≡ suc (x / 10) + (x - suc (x / 10)) = omega arith in
     ap (λ (b : Bool). step b x x) (le-ltb x 10 h)
     ∙ ap (λ (l : List ℕ). l ++ (48 + x % 10) ∷ []) (ap (λ (n : ℕ). digits n (x / 10)) fuel ∙ digits_fuel (x - suc (x / 10)) (x / 10))
+
+-- They are those of a tenth of it, and its last digit, as std's are,
+last_digit : AppendsLastDigit digits
+unfolding digits
+last_digit = search rules
+
+-- so what std writes of a number is its decimal.
+pub decimal_std : (x : ℕ) → x < 2 ^ 64 → decimal x ≡ std_decimal x
+unfolding decimal
+decimal_std x h = decimal_from_appends digits last_digit (suc x) x h (omega (arith, length-decimal-le_succ x h))
 
 -- A number below a power of ten has no more digits than the power says; it has one at least.
 digits_most : (fuel k x : ℕ) → x < 10 ^ suc k → length (digits fuel x) ≤ suc k
