@@ -24,6 +24,9 @@ use Rattle.equality.proofs.Rule.{taken_at, OpenAt, open_at}
 use Rattle.equality.proofs.Classes.{joined_to}
 use Rattle.equality.proofs.Passing.{Passing}
 use Rattle.scan.specs.Settled.{sharing, settled_by, Settled, Later, ClearedAbove}
+use Rattle.scan.specs.declared.Place.{Place}
+use Rattle.scan.specs.declared.Place.TheVariants.{Scan, Within, Nowhere, After}
+use Rattle.scan.specs.Place.{HasLevel, LevelOrNone}
 
 -- Where one test is passed another is: so by some of these terms.
 module _ (p q : Term → Bool) (also : (t : Term) → p t ≡ true → q t ≡ true) where
@@ -126,6 +129,13 @@ taken-number ds s c ts e =
     let at = taken_at ds 1 (conditions s) c ts e in
     let long : length (conditions s) ≡ length at.front + length (ts ∷ at.back) = ap length at.place ∙ length-append at.front (ts ∷ at.back) in
     (omega (arith, at.number), omega (arith, at.number, long, conditions-length s))
+
+-- What `settle` asks of a place holds of one that has a level.
+pub level-or-none : (p : Place) (levels : List ℕ) → HasLevel p levels → LevelOrNone p levels
+level-or-none Scan levels has = tt
+level-or-none (Within c r) levels has = has.1
+level-or-none Nowhere levels has = tt
+level-or-none (After x y) levels has = tt
 
 -- ---- later levels
 

@@ -57,14 +57,21 @@ Rises (After x y) = x.0 < y.0
 
 -- ---- the settled levels, and the condition that a place is within
 
--- It has one, where it isn't condition 0, which is none,
+-- The condition has one,
 abbrev pub HasLevel : Place → List ℕ → Type 0
 HasLevel Scan levels = Unit {0}
-HasLevel (Within c r) levels = c.0 ≤ length levels
+HasLevel (Within c r) levels = (1 ≤ c.0) × (c.0 ≤ length levels)
 HasLevel Nowhere levels = Unit {0}
 HasLevel (After x y) levels = Unit {0}
 
--- which is noted.
+-- or is condition 0, which is none:
+abbrev pub LevelOrNone : Place → List ℕ → Type 0
+LevelOrNone Scan levels = Unit {0}
+LevelOrNone (Within c r) levels = c.0 ≤ length levels
+LevelOrNone Nowhere levels = Unit {0}
+LevelOrNone (After x y) levels = Unit {0}
+
+-- for the first a level is noted, and for condition 0 nothing.
 abbrev pub with_level : Place → ℕ → List ℕ → List ℕ
 with_level Scan level levels = levels
 with_level (Within c r) level levels = cond (eqb c.0 0) levels (set levels (c.0 - 1) level)

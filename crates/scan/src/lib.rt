@@ -6,7 +6,7 @@ ghost use Rattle.equality.specs.Node.{Decisions, classes};
 ghost use Rattle.limit.specs.Meaning.{Limit};
 ghost use Rattle.sheet.specs.Inner.{HasConditions};
 ghost use Rattle.scan.specs.Settled.{Settled, Later, ClearedAbove};
-ghost use Rattle.scan.specs.Place.{Resumes, Stands, PlaceWithin, HasLevel, with_level};
+ghost use Rattle.scan.specs.Place.{Resumes, Stands, PlaceWithin, LevelOrNone, with_level};
 
 use classes::Classes;
 use sheet::{Condition, Lot, Record, SAME};
@@ -79,7 +79,7 @@ pub fn scan(sheet: &[u8], m: u16, map: Classes, levels: &mut [u16], level: u16) 
 
 // Notes that the condition that a place is within is settled at a level. Nothing is noted for a place that is within none; condition 0 is none.
 pub fn settle(levels: &mut [u16], place: Place, level: u16)
-    requires { HasLevel place levels.old }
+    requires { LevelOrNone place levels.old }
     ensures { levels.new ≡ with_level place level levels.old }
 {
     if let Place::Within(c, _) = place {

@@ -73,7 +73,9 @@ within-rises s (After x y) within = within
 -- The condition that a split's apart branch goes on in is one of the sheet's, so it has a level;
 pub has-level : (limit : Limit) (n : ℕ) (s levels : List ℕ) (ds : Decisions) → condition_count s ≤ length levels → (p : Place) → Resumes limit n s p ds → HasLevel p levels
 has-level limit n s levels ds sized Scan w = tt
-has-level limit n s levels ds sized (Within c r) w = omega (arith, (taken-number ds s c.0 (condition_at s c.0) w.condition).1, sized)
+has-level limit n s levels ds sized (Within c r) w =
+    let number = taken-number ds s c.0 (condition_at s c.0) w.condition in
+    (number.0, omega (arith, number.1, sized))
 has-level limit n s levels ds sized Nowhere w = tt
 has-level limit n s levels ds sized (After x y) w = tt
 

@@ -7,7 +7,7 @@ use Rattle.sheet.proofs.Accepted.{sound}
 use Rattle.equality.specs.Search.{grouping_bytes}
 use Rattle.equality.proofs.Visits.{met_tree, ground_tree, clique_tree, split_tree}
 use Rattle.node.specs.Found.{untaken_as}
-use Rattle.scan.proofs.Settling.{later_through, later_above}
+use Rattle.scan.proofs.Settling.{level-or-none, later_through, later_above}
 use Rattle.outcome.proofs.Fitting.{node-count}
 use Rattle.visit.proofs.Branching.{small, level_fits, pair_fits, may_note, same_able, same_open, over, apart_able, apart_later, apart_open, told_same}
 use Rattle.visit.proofs.Exploring.{none_explored, met_explored, ground_explored, clique_explored}
@@ -24,7 +24,7 @@ pub branches-overflow_add-up-2 : goal.branches-overflow_add-up-2
 branches-overflow_add-up-2 t c = omega (arith, level_fits c.requires.0.sheet.accepted c.requires.2)
 
 pub branches-settle-requires : goal.branches-settle-requires
-branches-settle-requires t c = may_note c.requires.0.sheet.accepted c.requires.2
+branches-settle-requires t c = level-or-none c.args.on.apart _ (may_note c.requires.0.sheet.accepted c.requires.2)
 
 pub branches-visit-under_same-requires : goal.branches-visit-under_same-requires
 branches-visit-under_same-requires t c =
